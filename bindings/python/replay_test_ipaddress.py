@@ -138,7 +138,7 @@ def read(kind, given, named, theirs):
 def ask(name, arguments, theirs):
     """Makes the call of a network or an interface here: the difference, None, or NotImplemented if it has no such call."""
     one, *others = arguments
-    if any(map(zoned, arguments)):
+    if zoned(one) or name != "__contains__" and any(map(zoned, others)):
         return "a zone"
     network = ours(one)
     if name in ORDERS:

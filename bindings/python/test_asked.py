@@ -1,4 +1,5 @@
-"""What a text, a network of one address and packed bytes are to each call; copies and pickles; what messages say."""
+"""What a text, a zone, a network of one address and packed bytes are to each call; copies and pickles; what messages
+say."""
 
 import copy
 import gc
@@ -38,9 +39,38 @@ class OneAddress(unittest.TestCase):
                 self.assertEqual([asked in each for each in NETWORKS], [address in each for each in NETWORKS])
                 longest = ROUTES.longest(asked)
                 self.assertEqual(longest and longest[1], value)
-            self.assertEqual(ROUTES.get(address), value)
-        # In a prefix table a network is a key.
-        self.assertIsNone(ROUTES.get(ip_network("10.1.2.3")))
+                self.assertEqual((ROUTES.get(asked), ROUTES.get(asked, 7)), (value, value or 7))
+                self.assertIs(asked in ROUTES, number is not None)
+                self.assertNotIn(asked, ROUTES.keys())
+                if number is None:
+                    with self.assertRaises(KeyError):
+                        ROUTES[asked]
+                else:
+                    self.assertEqual(ROUTES[asked], value)
+
+    def test_keys_of_one_address(self):
+        # A network is first of all a key; what is no key is asked about as its address.
+        host, other, deny = ip_network("10.1.1.1"), ip_network("10.1.1.2"), ip_network("10.0.0.0/8")
+        table = PrefixTable({deny: "deny", host: "host"})
+        self.assertEqual((table[host], table[other], table.get(other, "allow")), ("host", "deny", "deny"))
+        self.assertEqual([each in table.keys() for each in (host, other, deny)], [True, False, True])
+        self.assertIn(ipaddress.ip_network("10.0.0.0/8"), table.keys())
+        self.assertEqual(table.keys() & {host, other, deny}, {host, deny})
+        self.assertIn((host, "host"), table.items())
+        self.assertNotIn((other, "deny"), table.items())
+        for call in (table.pop, table.__delitem__):
+            with self.assertRaises(KeyError):
+                call(other)
+        self.assertEqual((table.pop(other, "none"), table.setdefault(other, "set")), ("none", "set"))
+        self.assertEqual((len(table), table[other]), (3, "set"))
+        # A wider network is only a key, and `longest` tells what has it.
+        wider = ip_network("10.1.1.0/31")
+        self.assertEqual((table.get(wider), wider in table, table.longest(wider)), (None, False, (deny, "deny")))
+        # So too where a key is IPv4-mapped, and an IPv4 network has the address.
+        mapped = ip_network("::ffff:10.1.1.1")
+        table = PrefixTable({deny: "deny", mapped: "mapped"}, mapped=True)
+        self.assertEqual((table[mapped], table[mapped.ip]), ("mapped", "deny"))
+        self.assertEqual(list(map(table.get, table)), ["deny", "mapped"])
 
     def test_wider_networks(self):
         for asked in (ip_network("10.1.2.2/31"), ipaddress.ip_network("10.1.2.2/31"), ip_network("::/0")):
@@ -50,10 +80,37 @@ class OneAddress(unittest.TestCase):
             self.assertNotIn(asked, IPv4Network("10.0.0.0/8"))
 
     def test_zones(self):
-        zoned = ipaddress.ip_network("2001:db8::1%eth0/128")
-        self.assertIsNone(TABLE.find(zoned))
-        self.assertNotIn(zoned, NETWORKS[2])
-        self.assertNotIn(zoned, SET)
+        networks = [*NETWORKS, ip_network("fe80::/64"), ip_network("::ffff:0:0/96"), ip_network("::5")]
+        theirs = [ipaddress.ip_network(str(each)) for each in networks]
+        for text in ("fe80::1", "fe80::", "2001:db8::1", "::ffff:10.1.2.3", "::ffff:11.0.0.0", "::5", "::6", "ff02::1"):
+            address, zoned = IPv6Address(text), IPv6Address(text + "%eth0")
+            interface = ipaddress.ip_interface(text + "%1/64")
+            single = ipaddress.ip_network(text + "%eth0/128")
+            self.assertEqual((zoned.scope_id, interface.scope_id), ("eth0", "1"))
+            wanted = [zoned in each for each in theirs]
+            for asked in (zoned, interface, single):
+                self.assertEqual([asked in each for each in networks], wanted)
+                for mapped in (False, True):
+                    some, table = AddressSet(networks, mapped=mapped), Table(networks, mapped=mapped)
+                    routes = PrefixTable(zip(networks, "abcdef"), mapped=mapped)
+                    self.assertIs(asked in some, any(wanted))
+                    self.assertEqual(table.find(asked), table.find(address))
+                    for _ in range(2):
+                        self.assertEqual(routes.longest(asked), routes.longest(address))
+                        self.assertEqual((routes.get(asked), asked in routes), (routes.get(address), any(wanted)))
+            self.assertEqual(ipnetwork.unmapped(zoned), zoned.ipv4_mapped or zoned)
+            self.assertEqual(ipnetwork.unmapped(interface), zoned.ipv4_mapped or interface)
+        local = ipaddress.ip_network("fe80::%eth0/64")
+        self.assertIn(local, AddressSet(networks))
+        self.assertTrue(AddressSet(networks).covers(local))
+        self.assertNotIn(ipaddress.ip_network("fe80::%eth0/63"), AddressSet(networks))
+        self.assertEqual(PrefixTable(zip(networks, "abcdef"))[local], "d")
+        # A text with a zone is none of an address, nor of a network.
+        for call in (read_address, ip_network, IPv6Network):
+            with self.assertRaises(AddressError):
+                call("fe80::1%eth0")
+        with self.assertRaises(AddressError):
+            IPv6Network.of(IPv6Address("fe80::1%eth0"), 64)
 
 
 class Read(unittest.TestCase):
@@ -95,8 +152,11 @@ class Messages(unittest.TestCase):
             (lambda: ip_network(theirs), "not as ipaddress.IPv4Network: from_ipaddress"),
             (lambda: IPv4Network(ipaddress.ip_interface("10.0.0.1/8")), "IPv4Interface: from_ipaddress"),
             (lambda: IPv4Network(IPv4Address("10.0.0.1")), "IPv4Address: str of it"),
-            (lambda: AddressSet([theirs]), "not ipaddress.IPv4Network: from_ipaddress"),
-            (lambda: AddressSet(["10.0.0.0/8"]), "not str: ip_network"),
+            (lambda: AddressSet([ipaddress.ip_interface("::1/8")]), "not ipaddress.IPv6Interface: from_ipaddress"),
+            (lambda: AddressSet([b"10.0.0.0/8"]), "network 0: .* not bytes: ip_network"),
+            (lambda: AddressSet("10.0.0.0/8"), "in an iterable, not as one str"),
+            (lambda: Table([theirs]), "not ipaddress.IPv4Network: from_ipaddress"),
+            (lambda: Table(["10.0.0.0/8"]), "not str: ip_network"),
             (lambda: PrefixTable([(theirs, 1)]), "not ipaddress.IPv4Network: from_ipaddress"),
             (lambda: Table([IPv4Address("10.0.0.1")]), "not ipaddress.IPv4Address: IPv4Network.of"),
         ):

@@ -70,12 +70,7 @@ class Builders(unittest.TestCase):
             (builder.build(), repr(builder)),
             (kept, "AddressSetBuilder([IPv4Network('10.0.0.0/8')])"),
         )
-        for wrong in (
-            "10.0.0.0/8",
-            ipaddress.ip_network("10.0.0.0/8"),
-            IPv4Address("10.0.0.1"),
-            None,
-        ):
+        for wrong in (b"10.0.0.0/8", ipaddress.ip_interface("10.0.0.0/8"), IPv4Address("10.0.0.1"), None):
             for call in (builder.add, builder.discard, lambda each: builder.update([each])):
                 with self.assertRaisesRegex(TypeError, type(wrong).__name__):
                     call(wrong)

@@ -29,7 +29,7 @@ def random_texts(count):
 
 def address(text):
     try:
-        return ipaddress.ip_address(text)
+        return None if "%" in text else ipaddress.ip_address(text)  # a text with a zone is none
     except ValueError:
         return None
 

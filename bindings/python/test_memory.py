@@ -77,6 +77,7 @@ CALLS = {
     "collapse": lambda: list(ipnetwork.collapse_addresses([NETWORKS[0], NETWORKS[2]])),
     "sets": lambda: (AddressSet(NETWORKS), SET | OTHER, SET & OTHER, SET - OTHER, list(SET)),
     "asked of a set": lambda: [address in SET for address in ASKED + NETWORKS],
+    "of texts": lambda: (SET | ["10.0.0.0/8"], SET.first_free(12, "10.0.0.0/8")),
     "questions of sets": lambda: (SET <= OTHER, SET < SET, SET.isdisjoint(OTHER), SET ^ OTHER, ~SET),
     "sets and tables with an index": lambda: (
         AddressSet(MANY).contains_column(ROWS),
@@ -135,7 +136,8 @@ REFUSED = {
     "covered": lambda: SET.covers("10.0.0.0/8"),
     "a range": lambda: AddressSet.of_ranges([(ASKED[0], ASKED[0] - 1)]),
     "a range of two": lambda: ipnetwork.summarize_address_range(ASKED[0], ASKED[1]),
-    "built": lambda: AddressSetBuilder().add("10.0.0.0/8"),
+    "built": lambda: AddressSetBuilder().add(b"10.0.0.0/8"),
+    "set of texts": lambda: AddressSet(["::/0", "10.0.0.0/33"]),
     "key": lambda: ROUTES.__setitem__(ASKED[0], 1),
     "no key": lambda: ROUTES[ip_network("8.0.0.0/8")],
     "no key for an address": lambda: ROUTES[IPv4Address("8.8.8.8")],

@@ -76,6 +76,9 @@ class Mapping(unittest.TestCase):
         for network in [drawn(rng, window) for _ in range(8)]:
             key, exact = longest(model, network), model.get(block(network), "none")
             self.assertEqual(table.longest(network), None if key is None else (key, model[key]))
+            self.assertIs(network in table.keys(), exact != "none")
+            if network.num_addresses == 1 and key is not None:  # asked about as its address
+                exact = model[key]
             self.assertEqual(table.get(network, "none"), exact)
             self.assertEqual(table.get(network.to_ipaddress().network, "none"), exact)
             self.assertIs(network in table, exact != "none")
@@ -113,17 +116,6 @@ class Mapping(unittest.TestCase):
         self.assertEqual(table.join(["::1", "1.2.3.4", "x", None]), ["six", "four", None, None])
         del table[ip_network("0.0.0.0/0")]
         self.assertEqual(table.join(["::1", "1.2.3.4"], "none"), ["six", "none"])
-        self.assertNotIn(IPv6Address("fe80::1%eth0"), table)
-        self.assertIsNone(table.longest(IPv6Address("fe80::1%eth0")))
-        self.assertEqual(table.get(IPv6Address("fe80::1%eth0"), 7), 7)
-        zoned = ipaddress.ip_network("fe80::%eth0/64")
-        if zoned.network_address.scope_id is not None:
-            table[ip_network("fe80::/64")] = "local"
-            self.assertEqual(
-                (table.longest(zoned), zoned in table, table.get(zoned)), (None, False, None)
-            )
-            with self.assertRaises(KeyError):
-                table[zoned]
 
     def test_what_it_is_asked(self):
         table = PrefixTable({ip_network("10.1.9.32/16"): 1})

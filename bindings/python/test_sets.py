@@ -5,6 +5,7 @@ import ipaddress
 import operator
 import pickle
 import random
+import re
 import threading
 import unittest
 from ipaddress import IPv4Address, IPv6Address
@@ -14,8 +15,10 @@ from ipnetwork import (
     AddressError,
     AddressSet,
     AddressSetBuilder,
+    FormatError,
     IPv4Network,
     IPv6Network,
+    PrefixError,
     Table,
     ip_network,
 )
@@ -311,13 +314,18 @@ class AsPython(unittest.TestCase):
         one = AddressSet(networks_of("10.0.0.0/8"))
         binary = [operator.or_, operator.and_, operator.sub, operator.xor]
         order = [operator.le, operator.lt, operator.ge, operator.gt]
-        for other in (set(), [], "10.0.0.0/8", 7, None, ip_network("10.0.0.0/8")):
-            for sign in binary + order:
+        single = "10.0.0.0/8", "", b"", 7, None, ip_network("10.0.0.0/8"), ipaddress.ip_network("::/0")
+        for other in (set(), [], *single):
+            for sign in binary * (other in single) + order:
                 for pair in ((one, other), (other, one)):
                     with self.assertRaises(TypeError):
                         sign(*pair)
             self.assertFalse(one == other)
             self.assertTrue(one != other)
+        for given in single:
+            for call in (AddressSet, AddressSetBuilder, one.union, one.isdisjoint):
+                with self.assertRaises(TypeError):
+                    call(given)
 
         class Answers:
             def __ror__(self, other):
@@ -328,12 +336,7 @@ class AsPython(unittest.TestCase):
 
         self.assertEqual((one | Answers(), one <= Answers()), ("ror", "ge"))
         for call in (one.isdisjoint, one.issubset, one.issuperset, one.union, one.difference):
-            for other in (
-                ["10.0.0.0/8"],
-                [ipaddress.ip_network("10.0.0.0/8")],
-                7,
-                [IPv4Address("10.0.0.1")],
-            ):
+            for other in ([b"10.0.0.0/8"], [None], 7, [IPv4Address("10.0.0.1")]):
                 with self.assertRaises(TypeError):
                     call(other)
         for asked in ("10.0.0.1", 7, None, b"\x0a\0\0\1", one):
@@ -343,19 +346,90 @@ class AsPython(unittest.TestCase):
                 one.covers(asked)
         with self.assertRaises(TypeError):
             one.covers(IPv4Address("10.0.0.1"))
-        for given in (ipaddress.ip_network("10.0.0.0/8"), "10.0.0.0/8", IPv4Address("10.0.0.1")):
-            with self.assertRaisesRegex(TypeError, type(given).__name__):
-                AddressSet([given])
+        for given in (b"10.0.0.0/8", IPv4Address("10.0.0.1"), ipaddress.ip_interface("::1/8"), 7, None):
+            with self.assertRaisesRegex(TypeError, f"network 1: .*{type(given).__name__}"):
+                AddressSet(["::", given])
 
-    def test_zones_are_in_no_set(self):
-        for text in ("fe80::1%eth0", "::%1"):
-            self.assertNotIn(IPv6Address(text), EVERYTHING)
-        for theirs in (
-            ipaddress.ip_interface("fe80::1%eth0/64"),
-            ipaddress.ip_network("fe80::%eth0/64"),
+    def test_made_of_texts_and_of_theirs(self):
+        texts = ["10.0.0.7/9", "10.128.0.0/9", "2001:db8::/32", "192.0.2.1", "10.1.0.0/255.255.0.0"]
+        whole = AddressSet(map(ip_network, texts))
+        self.assertEqual([str(each) for each in whole], ["10.0.0.0/8", "192.0.2.1/32", "2001:db8::/32"])
+        theirs = [ipaddress.ip_network(text, strict=False) for text in texts]
+        mixed = [ip_network(texts[0]), texts[1], *theirs[2:]]
+        for given in (texts, tuple(texts), iter(texts), {*texts}, dict.fromkeys(texts), theirs, mixed):
+            self.assertEqual(AddressSet(given), whole)
+        builder = AddressSetBuilder(texts[:2])
+        builder.update(texts[2:])
+        for each in (theirs[0], texts[1]):
+            builder.discard(each)
+            builder.add(each)
+        self.assertEqual(builder.build(), whole)
+        for text, kind in (
+            ("10.0.0.0/33", PrefixError),
+            (" 10.0.0.0/8", AddressError),
+            ("10.0.0.0/8\n", PrefixError),
+            ("010.0.0.0/8", AddressError),
+            ("10.0.0.0/8/", FormatError),
+            ("fe80::1%eth0", AddressError),
+            ("", AddressError),
         ):
-            if getattr(theirs, "scope_id", None) or theirs.network_address.scope_id:
-                self.assertNotIn(theirs, EVERYTHING)
+            for call in (AddressSet, builder.update, builder.difference_update, whole.union, whole.__or__):
+                with self.assertRaises(kind) as raised:
+                    call(["::/0", "10.0.0.0/8", text, "x"])
+                self.assertRegex(str(raised.exception), "^network 2: .*" + re.escape(repr(text)))
+        self.assertEqual(builder.build(), whole)  # nothing of what was refused
+        zoned = ipaddress.ip_network("fe80::%eth0/64")
+        if zoned.network_address.scope_id:
+            with self.assertRaisesRegex(AddressError, "network 1: .*eth0"):
+                AddressSet(["::", zoned])
+
+    def test_operators_take_iterables(self):
+        rng = random.Random(93)
+        signs = [operator.or_, operator.and_, operator.sub, operator.xor]
+        inplace = [operator.ior, operator.iand, operator.isub, operator.ixor]
+        for window in WINDOWS:
+            (one, has), (other, others) = sets(rng, window, (6, 5))
+            networks = list(other)
+            for sign, own in zip(signs, inplace):
+                wanted, turned = least(sign(has, others)), least(sign(others, has))
+                for given in (networks, tuple(networks), [*map(str, networks)], {*networks}):
+                    self.assertEqual([*map(str, sign(one, given))], wanted)
+                    self.assertEqual([*map(str, sign(given, one))], turned)
+                    self.assertEqual([*map(str, own(one, given))], wanted)
+                self.assertEqual([*map(str, sign(one, iter(networks)))], wanted)
+                self.assertEqual([*map(str, sign(iter(networks), one))], turned)
+                self.assertEqual(sign(one, []), sign(one, AddressSet()))
+                self.assertTrue(sign(networks, AddressSet(one, mapped=True)).mapped)
+
+    def test_first_free(self):
+        rng = random.Random(94)
+        for window in WINDOWS:
+            kind, address, base = window
+            for count in range(30):
+                networks = drawn(rng, window, count)
+                one, has = AddressSet(networks), addresses(networks)
+                for within in drawn(rng, window, 4):
+                    theirs = ipaddress.ip_network(str(within), strict=False)
+                    prefix = rng.randrange(within.prefixlen, kind.max_prefixlen + 1)
+                    free = (each for each in theirs.subnets(new_prefix=prefix) if has.isdisjoint(each))
+                    wanted = next(map(str, free), "None")
+                    for asked in (within, theirs, str(within)):
+                        self.assertEqual(str(one.first_free(prefix, asked)), wanted)
+        for text in ("0.0.0.0/0", "::/0", "255.255.255.255", "::1"):
+            network = ip_network(text)
+            for prefix in {network.prefixlen, network.max_prefixlen}:
+                first = ipaddress.ip_network((network.network_address, prefix))
+                self.assertEqual(str(AddressSet().first_free(prefix, network)), str(first))
+                self.assertIsNone(EVERYTHING.first_free(prefix, network))
+                self.assertIs(type(AddressSet().first_free(prefix, network)), type(network))
+            for prefix in (network.prefixlen - 1, network.max_prefixlen + 1, 300):
+                with self.assertRaisesRegex(ValueError, "no prefix length of subnets"):
+                    EVERYTHING.first_free(prefix, network)
+        for prefix, within in ((24.0, "10.0.0.0/8"), (24, IPv4Address("10.0.0.0")), (24, None)):
+            with self.assertRaises(TypeError):
+                EVERYTHING.first_free(prefix, within)
+
+    def test_interfaces(self):
         # An interface is its address, as elsewhere.
         self.assertIn(ipaddress.ip_interface("10.1.2.3/0"), AddressSet(networks_of("10.0.0.0/8")))
 

@@ -41,6 +41,11 @@ one.covers(network)
 one.covers(TheirNetwork("10.0.0.0/8"))
 one.complement(4)
 one.union([network], other)
+joined = one | {network} | ["10.0.0.0/8", TheirNetwork("10.0.0.0/8")] | AddressSet(["::/0"])
+free: Union[Either, None] = one.first_free(24, network) or one.first_free(24, "10.0.0.0/8")
+excluded: Iterator[IPv4Network] = IPv4Network("10.0.0.0/8").address_exclude(IPv4Network("10.0.0.0/9"))
+hosts: Iterator[IPv4Address] = IPv4Network("10.0.0.0/8").supernet().hosts()
+masks: IPv6Address = IPv6Network("::/8").hostmask
 builder = AddressSetBuilder(one)
 builder.add(network)
 builder.discard(network)
@@ -78,13 +83,13 @@ b"10.1.2.3" in network  # type: ignore[operator]
 plain.find("10.1.2.3")  # type: ignore[arg-type]
 read_address(b"10.1.2.3")  # type: ignore[arg-type]
 unmapped("10.1.2.3")  # type: ignore[call-overload]
-one | {network}  # type: ignore[operator]
+one | 7  # type: ignore[operator]
 one <= {network}  # type: ignore[operator]
 one.covers(address)  # type: ignore[arg-type]
 one.complement(32)  # type: ignore[arg-type]
-AddressSet(["10.0.0.0/8"])  # type: ignore[list-item]
+AddressSet([b"10.0.0.0/8"])  # type: ignore[list-item]
 AddressSet.of_ranges([("10.0.0.0", "10.0.0.1")])  # type: ignore[list-item]
-builder.add("10.0.0.0/8")  # type: ignore[arg-type]
+builder.add(b"10.0.0.0/8")  # type: ignore[arg-type]
 routes[network] = 7  # type: ignore[assignment]
 routes[address] = "lab"  # type: ignore[index]
 routes["10.0.0.0/8"]  # type: ignore[index]

@@ -15,16 +15,23 @@ questions are about the members. Networks are hashable, equal if their addresses
 are, and ordered by address and then by prefix length, so they can be sorted. As in ``ipaddress``,
 ``a <= b`` is that order; ``a.subnet_of(b)`` tells whether a is part of b. Addresses are those of
 ``ipaddress``, which ``read_address`` reads. Where an address is asked about, a network of one
-address may be given instead; only in a ``PrefixTable`` a network is a key.
+address may be given instead; in a ``PrefixTable`` it is first of all a key. An address with a zone
+is asked by its address; a text with one is no address.
 
 >>> read_address("10.1.255.255") in network, ip_network("10.1.255.255") in network
 (True, True)
 
 A server that listens on IPv4 and IPv6 with one socket sees the address of an IPv4 peer as
 ``::ffff:10.1.9.32``, an IPv4-mapped IPv6 address, which is in no IPv4 network: such a peer gets
-past a list of denied networks. So ask about ``unmapped(address)``, or make a set or a table with
-``mapped=True``, in which such an address counts as the IPv4 address.
+past a list of denied networks. So make a set or a table with ``mapped=True``, or ask about
+``unmapped(address)`` too.
 
+With ``mapped``, what is said of either form counts: an IPv4-mapped IPv6 address is a member if the
+IPv4 address, or the IPv6 address as it stands, is one; its longest network is that of the IPv4
+address, and if there is none that of the IPv6 address; and so for a network within ::ffff:0:0/96.
+
+>>> IPv6Address("::ffff:10.1.9.32") in AddressSet([network], mapped=True)
+True
 >>> unmapped(IPv6Address("::ffff:10.1.9.32")) in network
 True
 

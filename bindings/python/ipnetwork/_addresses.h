@@ -134,9 +134,9 @@ static PyObject *address_object(State *state, const uint8_t *octets, uint8_t len
     return address;
 }
 
-/* The kind of an object: an address, whose octets are written through the last argument; an address with a
- * zone; or neither. */
-enum { IS_ADDRESS, HAS_ZONE, NO_ADDRESS, HAS_RAISED };
+/* The kind of an object: an address, whose octets are written through the last argument, without its zone if it has
+ * one; or another object. */
+enum { IS_ADDRESS, NO_ADDRESS, HAS_RAISED };
 
 static int address_of(State *state, PyObject *object, ipnetwork_address *address) {
     if (PyObject_TypeCheck(object, (PyTypeObject *)state->v4_address)) {
@@ -150,11 +150,6 @@ static int address_of(State *state, PyObject *object, ipnetwork_address *address
         return IS_ADDRESS;
     }
     if (PyObject_TypeCheck(object, (PyTypeObject *)state->v6_address)) {
-        PyObject *zone = PyObject_GetAttr(object, state->name_scope);
-        if (zone == NULL) return HAS_RAISED;
-        int zoned = zone != Py_None;
-        Py_DECREF(zone);
-        if (zoned) return HAS_ZONE;
         PyObject *number = PyObject_GetAttr(object, state->name_ip);
         if (number == NULL) return HAS_RAISED;
         int whole = octets_of_number(state, number, address->octets);
@@ -214,11 +209,10 @@ static int alone_of(State *state, PyObject *object, ipnetwork_address *address) 
     return kind == HAS_RAISED && !PyErr_Occurred() ? NO_ADDRESS : kind;
 }
 
-/* The result of `in` for an object without octets: an address with a zone or a network is no member; anything
- * else is a TypeError. */
+/* The result of `in` for an object without octets: a network is no member; anything else is a TypeError. */
 static int no_member(State *state, PyObject *object, int kind) {
     if (kind == HAS_RAISED) return -1;
-    if (kind == HAS_ZONE || PyObject_TypeCheck(object, state->network_type)) return 0;
+    if (PyObject_TypeCheck(object, state->network_type)) return 0;
     int network = PyObject_IsInstance(object, state->base_network);
     if (network != 0) return network < 0 ? -1 : 0;
     no_address(object);

@@ -13,7 +13,7 @@ static int put_asked(const ipnetwork_address *address, long prefix, ipnetwork_ip
                                                : put(held, address->octets, (uint8_t)prefix));
 }
 
-/* The same for a network of ipaddress, whose address may have a zone. */
+/* The same for a network of ipaddress, whose address may have a zone, which is left out. */
 static int asked_of_theirs(State *state, PyObject *given, ipnetwork_ip *held) {
     ipnetwork_address address;
     PyObject *least = PyObject_GetAttrString(given, "network_address"), *length = NULL;
@@ -28,7 +28,7 @@ static int asked_of_theirs(State *state, PyObject *given, ipnetwork_ip *held) {
 }
 
 /* Writes the network that is asked about, or the network of only an address, through the last argument.
- * HAS_ZONE if an address has a zone, and thus no network; HAS_RAISED with TypeError for any other object. */
+ * HAS_RAISED with TypeError for any other object. */
 static int asked_of(State *state, PyObject *given, ipnetwork_ip *held) {
     ipnetwork_address address;
     if (PyObject_TypeCheck(given, state->network_type)) {
@@ -57,14 +57,12 @@ static int block_at(const ipnetwork_ip *held, uint8_t prefix, uint8_t row[17]) {
                                   : ipnetwork_v6_network(&whole.v6, row));
 }
 
-/* block_row(network): the bytes of its struct without host bits; None if its address has a zone. */
+/* block_row(network): the bytes of its struct without host bits. */
 static PyObject *block_row(PyObject *module, PyObject *given) {
     State *state = PyModule_GetState(module);
     ipnetwork_ip held;
     uint8_t row[17];
-    int kind = asked_of(state, given, &held);
-    if (kind == HAS_ZONE) return again(Py_None);
-    if (kind != IS_ADDRESS || !block_at(&held, prefix_of(&held), row)) return NULL;
+    if (asked_of(state, given, &held) != IS_ADDRESS || !block_at(&held, prefix_of(&held), row)) return NULL;
     return PyBytes_FromStringAndSize((const char *)row, width_of(&held) + 1);
 }
 
@@ -81,8 +79,7 @@ static PyObject *longest_key(PyObject *module, PyObject *arguments) {
     if (!PyArg_ParseTuple(arguments, "O!y#y#O", &PyDict_Type, &keys, &lengths[0], &counts[0],
                           &lengths[1], &counts[1], &given))
         return NULL;
-    int kind = asked_of(state, given, &held);
-    if (kind != IS_ADDRESS) return kind == HAS_ZONE ? again(Py_None) : NULL;
+    if (asked_of(state, given, &held) != IS_ADDRESS) return NULL;
     int six = held.family == 6;
     for (Py_ssize_t place = 0; place < counts[six]; place++) {
         uint8_t prefix = (uint8_t)lengths[six][place];

@@ -9,7 +9,7 @@ from typing import TYPE_CHECKING, NamedTuple
 
 from ._chosen import core
 from ._lock import new_lock
-from ._networks import Either, IPv4Network, IPv6Network, no_network
+from ._networks import Given, network_of
 from ._sets import AddressSet
 
 if TYPE_CHECKING:
@@ -40,32 +40,37 @@ class _Step(NamedTuple):
     row: bytes
 
 
-def _of_run(adds: bool, rows: list[bytes]) -> _Change:
+def _of_run(adds: bool, rows: list[bytes], mapped: bool) -> _Change:
     """The change made by steps that all add, or all remove."""
     fours = core.aggregate(4, b"".join([row for row in rows if len(row) == 5]))
     sixes = core.aggregate(6, b"".join([row for row in rows if len(row) == 17]))
-    run, none = AddressSet._of(fours, sixes), AddressSet()
+    run, none = AddressSet._of(fours, sixes, mapped), AddressSet()
     return _Change(none, run) if adds else _Change(run, none)
 
 
-def _in_one(steps: list[_Step]) -> _Change:
+def _in_one(steps: list[_Step], mapped: bool) -> _Change:
     """The change made by steps, one after the other. Neighbours are combined first, so that each
     step takes part in few operations."""
     runs = groupby(steps, key=attrgetter("adds"))
-    changes = [_of_run(adds, [step.row for step in run]) for adds, run in runs]
+    changes = [_of_run(adds, [step.row for step in run], mapped) for adds, run in runs]
     while len(changes) > 1:
         pairs = [one.then(other) for one, other in zip(changes[::2], changes[1::2])]
         changes = pairs + changes[len(pairs) * 2 :]
-    return changes[0] if changes else _of_run(True, [])
+    return changes[0] if changes else _of_run(True, [], mapped)
 
 
 class AddressSetBuilder:
     """A set of addresses to which networks are added, and from which they are removed, one by one.
+    A network is given as for an ``AddressSet``.
 
     ``build`` returns the addresses so far as an ``AddressSet``, and the builder can be changed
-    further. With ``mapped``, an IPv4-mapped address counts as the IPv4 address in these sets. On
-    average a change takes a few microseconds, whatever the size of the set; ``build`` takes time in
-    proportion to it. Several threads may change one builder.
+    further. On average a change takes a few microseconds, whatever the size of the set; ``build``
+    takes time in proportion to it. Several threads may change one builder.
+
+    The option ``mapped`` is that of the sets that it builds. With ``mapped``, what is said of
+    either form counts: an IPv4-mapped IPv6 address is a member if the IPv4 address, or the IPv6
+    address as it stands, is one; its longest network is that of the IPv4 address, and if there is
+    none that of the IPv6 address; and so for a network within ::ffff:0:0/96.
 
     >>> builder = AddressSetBuilder([ip_network("10.0.0.0/8")])
     >>> builder.discard(ip_network("10.0.0.0/9"))
@@ -76,7 +81,7 @@ class AddressSetBuilder:
 
     __slots__ = ("__weakref__", "_lock", "_made", "_steps")
 
-    def __init__(self, networks: Iterable[Either] = (), *, mapped: bool = False) -> None:
+    def __init__(self, networks: Iterable[Given] = (), *, mapped: bool = False) -> None:
         if isinstance(networks, AddressSet) and (networks.mapped or not mapped):
             self._made = networks
         else:
@@ -84,10 +89,8 @@ class AddressSetBuilder:
         self._steps: list[_Step] = []
         self._lock = new_lock()
 
-    def _take(self, adds: bool, network: Either) -> None:
-        if not isinstance(network, (IPv4Network, IPv6Network)):
-            raise no_network(network)
-        step = _Step(adds, network._row)
+    def _take(self, adds: bool, network: Given) -> None:
+        step = _Step(adds, network_of(network)._row)
         self._lock.acquire()
         try:
             if len(self._steps) >= _LEAST + len(self._made) // 2:
@@ -96,22 +99,22 @@ class AddressSetBuilder:
         finally:
             self._lock.release()
 
-    def add(self, network: Either) -> None:
+    def add(self, network: Given) -> None:
         """Adds the addresses of a network. Those that are already there change nothing."""
         self._take(True, network)
 
-    def discard(self, network: Either) -> None:
+    def discard(self, network: Given) -> None:
         """Removes the addresses of a network. Those that are not there change nothing."""
         self._take(False, network)
 
-    def update(self, networks: Iterable[Either]) -> None:
-        """Adds the addresses of networks, or of a set."""
-        for network in networks:
+    def update(self, networks: Iterable[Given]) -> None:
+        """Adds the addresses of networks, or of a set; of none if an element is no network."""
+        for network in AddressSet(networks):
             self._take(True, network)
 
-    def difference_update(self, networks: Iterable[Either]) -> None:
-        """Removes the addresses of networks, or of a set."""
-        for network in networks:
+    def difference_update(self, networks: Iterable[Given]) -> None:
+        """Removes the addresses of networks, or of a set; of none if an element is no network."""
+        for network in AddressSet(networks):
             self._take(False, network)
 
     def build(self) -> AddressSet:
@@ -121,7 +124,7 @@ class AddressSetBuilder:
             count = len(self._steps)
             if count:
                 # Making these changes a second time would change nothing.
-                self._made = _in_one(self._steps).of(self._made)
+                self._made = _in_one(self._steps, self._made.mapped).of(self._made)
                 del self._steps[:count]
             return self._made
         finally:

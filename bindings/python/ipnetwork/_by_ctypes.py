@@ -84,9 +84,9 @@ def build() -> str:
     return text.value.decode()
 
 
-def _asked(given: object) -> Union[bytes, None]:
+def _asked(given: object) -> bytes:
     """The bytes of the struct of the network that is asked about, or of the network of only an
-    address; None if the address has a zone. TypeError for any other object."""
+    address, without its zone if it has one. TypeError for any other object."""
     if isinstance(given, Network):
         return given._row
     address, prefix = given, None
@@ -97,8 +97,6 @@ def _asked(given: object) -> Union[bytes, None]:
             "what is asked about is an address of ipaddress, or a network, not "
             f"{type_name(given)}: read_address and ip_network read a text"
         )
-    if getattr(address, "_scope_id", None) is not None:
-        return None
     packed = address.packed
     return packed + bytes([len(packed) * 8 if prefix is None else prefix])
 
@@ -112,10 +110,10 @@ def _block_at(row: bytes, prefix: int) -> bytes:
     return bytes(octets) + bytes([prefix])
 
 
-def block_row(network: object) -> Union[bytes, None]:
-    """The bytes of the struct of a network without host bits; None if its address has a zone."""
+def block_row(network: object) -> bytes:
+    """The bytes of the struct of a network without host bits."""
     row = _asked(network)
-    return None if row is None else _block_at(row, row[-1])
+    return _block_at(row, row[-1])
 
 
 def longest_key(
@@ -125,8 +123,6 @@ def longest_key(
     longest network that has all that is asked about; None if there is none. ``fours`` and ``sixes``
     are the prefix lengths of the keys, in descending order."""
     row = _asked(asked)
-    if row is None:
-        return None
     for prefix in fours if len(row) == 5 else sixes:
         if prefix <= row[-1]:
             key = _block_at(row, prefix)
@@ -136,12 +132,13 @@ def longest_key(
 
 
 def set_contains(search: tuple[bytes, bytes, bytes, bytes, bool], asked: object) -> bool:
-    """Whether a set, given by the bytes of its blocks, has an address, or each of a network."""
+    """Whether a set, given by the bytes of its blocks, has an address, or each of a network as it
+    stands."""
     if search[4] and isinstance(asked, IPv6Address):
-        asked = unmapped(asked)
+        address = unmapped(asked)
+        if address is not asked and set_contains(search, address):
+            return True
     row = _asked(asked)
-    if row is None:
-        return False
     blocks, index = search[:2] if len(row) == 5 else search[2:4]
     if not contains_packed(blocks, index, row[:-1], len(row) - 1)[0]:
         return False
@@ -163,8 +160,9 @@ def table_find(
     if not isinstance(address, (IPv4Address, IPv6Address)):
         no_member(address)
         raise TypeError(f"{address!r} has more than one address, and one is asked about")
-    if getattr(address, "_scope_id", None) is not None:
-        return -1
-    packed = (unmapped(address) if search[6] else address).packed
-    ranges, numbers, index = search[:3] if len(packed) == 4 else search[3:6]
-    return numbers_packed(ranges, numbers, index, packed, len(packed))[0]
+    number = -1
+    for form in (unmapped(address), address) if search[6] else (address,):
+        lists = search[:3] if form.version == 4 else search[3:6]
+        if number < 0:
+            number = numbers_packed(*lists, form.packed, len(form.packed))[0]
+    return number

@@ -39,10 +39,11 @@ def no_address(given: object) -> TypeError:
 
 
 def unmapped(address: Union[IPv4Address, IPv6Address]) -> Union[IPv4Address, IPv6Address]:
-    """The IPv4 address in an IPv4-mapped one; any other address, and one with a zone, as it is."""
+    """The IPv4 address in an IPv4-mapped one, with or without a zone; any other address as it
+    is."""
     if not isinstance(address, (IPv4Address, IPv6Address)):
         raise no_address(address)
-    if address.version == 6 and address._scope_id is None:
+    if address.version == 6:
         octets = unmapped_octets(address.packed)
         return address if octets is None else IPv4Address(octets)
     return address

@@ -109,6 +109,14 @@ def _family(column: bytes, width: int) -> tuple[list[int], bytes]:
     return rows, b"".join([column[row * ADDRESS : row * ADDRESS + width] for row in rows])
 
 
+def _mapped(column: bytes) -> tuple[list[int], bytes]:
+    """The rows of a column that have IPv4-mapped addresses, and the IPv4 addresses, packed."""
+    rows, packed = _family(column, 16)
+    fours = [unmapped_octets(packed[at : at + 16]) for at in range(0, len(packed), 16)]
+    found = [(row, four) for row, four in zip(rows, fours) if four is not None]
+    return [row for row, _ in found], b"".join([four for _, four in found])
+
+
 def index(version: int, blocks: bytes) -> bytes:
     """The index by which a list of blocks is searched: empty if there are only few."""
     count, length = len(blocks) // _step(version), ctypes.c_size_t()
@@ -159,12 +167,16 @@ def set_contains_column(
     search: tuple[bytes, bytes, bytes, bytes, bool], addresses: ReadableBuffer
 ) -> bytearray:
     """For each address of a column a byte: 1 if it is in the set, else 0."""
-    column = bytes(unmapped_rows(addresses)) if search[4] else _column(addresses)
+    column = _column(addresses)
     answers = bytearray(len(column) // ADDRESS)
     for width, (blocks, index) in ((4, search[:2]), (16, search[2:4])):
         rows, packed = _family(column, width)
         for row, answer in zip(rows, contains_packed(blocks, index, packed, width)):
             answers[row] = answer
+    if search[4]:
+        rows, packed = _mapped(column)
+        for row, answer in zip(rows, contains_packed(*search[:2], packed, 4)):
+            answers[row] |= answer
     return answers
 
 
@@ -201,12 +213,16 @@ def table_find_column(
 ) -> bytearray:
     """For each address of a column the number of the longest network that has it, or -1, as numbers
     of 64 bits."""
-    column = bytes(unmapped_rows(addresses)) if search[6] else _column(addresses)
+    column = _column(addresses)
     told = array.array("q", [-1]) * (len(column) // ADDRESS)
     for width, (structs, numbers, index) in ((4, search[:3]), (16, search[3:6])):
         rows, packed = _family(column, width)
         for row, number in zip(rows, numbers_packed(structs, numbers, index, packed, width)):
             told[row] = number
+    if search[6]:
+        rows, packed = _mapped(column)
+        for row, number in zip(rows, numbers_packed(*search[:3], packed, 4)):
+            told[row] = number if number >= 0 else told[row]
     return bytearray(told.tobytes())
 
 

@@ -69,7 +69,6 @@ class Network(Generic[Address]):
     _address: type[Address]
 
     _row: bytes
-    prefixlen: int
 
     def __init__(self, text: Union[str, bytes]) -> None:
         """The network that a text names, or that of a single address, given as its packed bytes.
@@ -89,8 +88,27 @@ class Network(Generic[Address]):
         self._keep(bytes(held))
 
     def _keep(self, row: bytes) -> None:
-        self._row = row
-        self.prefixlen = row[-1]
+        self.__dict__["_row"] = row
+
+    def __setattr__(self, name: str, value: object) -> None:
+        """A network does not change: only one of a subclass has attributes that can be set, and
+        these are not those of a network."""
+        self._changes(name)
+        super().__setattr__(name, value)
+
+    def __delattr__(self, name: str) -> None:
+        self._changes(name)
+        super().__delattr__(name)
+
+    def _changes(self, name: str) -> None:
+        if type(self) in _classes or name == "_row" or name in vars(Network):
+            kind = type(self).__name__
+            raise AttributeError(f"attribute {name!r} of {kind!r} objects is not writable")
+
+    @property
+    def prefixlen(self) -> int:
+        """The prefix length."""
+        return self._row[-1]
 
     def _asked(self, call: ctypes._NamedFuncPointer) -> Address:
         """The address that a call of the library returns for this network."""
@@ -156,11 +174,9 @@ class Network(Generic[Address]):
 
     def __contains__(self, address: object) -> bool:
         """Whether an address, or the address of a network of one address, is a member. An address
-        of the other family or with a zone is not, nor is a network of more than one address."""
+        of the other family is not, nor is a network of more than one address."""
         address = alone(address)
         if isinstance(address, self._address):
-            if getattr(address, "_scope_id", None) is not None:
-                return False
             answer = ctypes.c_uint8()
             answered(self._has(self._row, address.packed, ctypes.byref(answer)))
             return answer.value == 1

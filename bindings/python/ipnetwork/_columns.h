@@ -212,7 +212,7 @@ static int truth_at(PyObject *given, Py_ssize_t place, int *truth) {
 }
 
 /* The blocks of a set of addresses of both families, as `aggregate` and `operate` leave them, with their indexes; and
- * whether an IPv4-mapped address counts as the IPv4 address. */
+ * whether an IPv4-mapped address is a member in either form. */
 typedef struct {
     searched_list fours, sixes;
     int mapped;
@@ -236,8 +236,10 @@ static inline ipnetwork_fault set_has(const Set *set, const ipnetwork_address *a
     *answer = 0;
     if (address->length == 4) return list_contains(&set->fours, address->octets, answer);
     if (address->length != 16) return address->length == 0 ? IPNETWORK_OK : IPNETWORK_NO_FAMILY;
-    if (set->mapped && ipnetwork_v6_unmapped(address->octets, octets) == IPNETWORK_OK)
-        return list_contains(&set->fours, octets, answer);
+    if (set->mapped && ipnetwork_v6_unmapped(address->octets, octets) == IPNETWORK_OK) {
+        ipnetwork_fault fault = list_contains(&set->fours, octets, answer);
+        if (fault != IPNETWORK_OK || *answer != 0) return fault;
+    }
     return list_contains(&set->sixes, address->octets, answer);
 }
 
@@ -256,7 +258,7 @@ static ipnetwork_fault set_covers(const Set *set, const ipnetwork_ip *asked, uin
     return ipnetwork_v6_is_subnet_of(&asked->v6, (const ipnetwork_v6 *)block, answer);
 }
 
-/* set_contains(search, asked): an address, or each address of a network. */
+/* set_contains(search, asked): an address, or each address of a network, as it stands. */
 static PyObject *set_contains(PyObject *module, PyObject *arguments) {
     State *state = PyModule_GetState(module);
     PyObject *search, *given;
@@ -269,7 +271,6 @@ static PyObject *set_contains(PyObject *module, PyObject *arguments) {
     if (kind == IS_ADDRESS)
         return answered(set_has(&set, &address, &answer)) ? PyBool_FromLong(answer) : NULL;
     if (kind == NO_ADDRESS) kind = asked_of(state, given, &asked);
-    if (kind == HAS_ZONE) return PyBool_FromLong(0);
     if (kind != IS_ADDRESS || !answered(set_covers(&set, &asked, &answer))) return NULL;
     return PyBool_FromLong(answer);
 }
@@ -304,8 +305,7 @@ static PyObject *set_contains_column(PyObject *module, PyObject *arguments) {
 
 /* ---- IPv4-mapped addresses ---- */
 
-/* unmapped(address): the IPv4 address in an IPv4-mapped one; any other address, and one with a zone, as it
- * is. */
+/* unmapped(address): the IPv4 address in an IPv4-mapped one, which may have a zone; any other address as it is. */
 static PyObject *unmapped(PyObject *module, PyObject *given) {
     State *state = PyModule_GetState(module);
     ipnetwork_address address;

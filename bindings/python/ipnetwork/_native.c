@@ -157,7 +157,7 @@ static PyMethodDef calls[] = {
                "The prefix length of a packed mask; MaskError if it is not a mask.")},
     {"block_row", block_row, METH_O,
      OF_MODULE("block_row", "network",
-               "The bytes of a network's struct, without host bits; None if it has a zone.")},
+               "The bytes of a network's struct, without host bits.")},
     {"read_rows", read_rows, METH_VARARGS,
      OF_MODULE("read_rows", "kind, texts, offsets",
                "Reads a column of texts: networks of family 4 or 6, or addresses if kind is 0.")},
@@ -184,9 +184,9 @@ static PyMethodDef calls[] = {
                "The index by which such blocks are searched: empty if there are only few.")},
     {"set_contains", set_contains, METH_VARARGS,
      OF_MODULE("set_contains", "search, asked",
-               "Whether a set has an address, or each address of a network. ``search`` is the IPv4\n"
-               "blocks and their index, the same for IPv6, and whether an IPv4-mapped address\n"
-               "counts as the IPv4 address.")},
+               "Whether a set has an address, or each address of a network, as it stands. ``search``\n"
+               "is the IPv4 blocks and their index, the same for IPv6, and whether an IPv4-mapped\n"
+               "address is a member in either form.")},
     {"set_contains_column", set_contains_column, METH_VARARGS,
      OF_MODULE("set_contains_column", "search, addresses",
                "For each address of a column a byte: 1 if a set has it, else 0.")},
@@ -200,15 +200,15 @@ static PyMethodDef calls[] = {
     {"table_find", table_find, METH_VARARGS,
      OF_MODULE("table_find", "search, address",
                "The number of the longest network that has an address, or -1. ``search`` is what\n"
-               "``ranges`` returns for IPv4 and for IPv6, and whether an IPv4-mapped address\n"
-               "counts as the IPv4 address.")},
+               "``ranges`` returns for IPv4 and for IPv6, and whether an IPv4-mapped address is\n"
+               "found in either form, first as the IPv4 address.")},
     {"table_find_column", table_find_column, METH_VARARGS,
      OF_MODULE("table_find_column", "search, addresses",
                "The same for each address of a column.")},
     {"unmapped", unmapped, METH_O,
      OF_MODULE("unmapped", "address",
-               "The IPv4 address in an IPv4-mapped IPv6 address, one of ``::ffff:0:0/96``. Any other\n"
-               "address, and one with a zone, is returned as it is.")},
+               "The IPv4 address in an IPv4-mapped IPv6 address, one of ``::ffff:0:0/96``, with or\n"
+               "without a zone. Any other address is returned as it is.")},
     {"unmapped_rows", unmapped_rows, METH_O,
      OF_MODULE("unmapped_rows", "addresses", "The same for each address of a column.")},
     {"longest_key", longest_key, METH_VARARGS,

@@ -7,11 +7,11 @@ from copy import deepcopy
 from ipaddress import IPv4Address, IPv4Interface, IPv6Address, IPv6Interface
 from ipaddress import IPv4Network as TheirV4
 from ipaddress import IPv6Network as TheirV6
-from operator import index
+from operator import attrgetter, index
 from typing import TYPE_CHECKING, Any, ClassVar, Generic, SupportsIndex, TypeVar, Union, overload
 
 from ._chosen import core
-from ._errors import error
+from ._errors import NetworkError, error
 
 if TYPE_CHECKING:
     from _typeshed import ReadableBuffer
@@ -24,7 +24,8 @@ _Asked = TypeVar("_Asked")
 
 
 def packed(kind: Union[type[EitherAddress], tuple[type, ...]], address: EitherAddress) -> bytes:
-    """The packed bytes of an address of this type; AddressError if it has a zone."""
+    """The packed bytes of an address of this type; AddressError if it has a zone, which no network
+    keeps."""
     if not isinstance(address, kind):
         names = getattr(kind, "__name__", "IPv4Address or IPv6Address")
         raise TypeError(f"an address is {names}, not {type(address).__name__}")
@@ -40,7 +41,13 @@ def _subnets(network: _Kind, prefix: int, count: int) -> Iterator[_Kind]:
             yield subnet
 
 
-class _Network(Generic[Address]):
+if TYPE_CHECKING:
+    _Base = core.Network
+else:
+    _Base = Generic
+
+
+class _Network(_Base[Address]):
     """What the networks of both families have in addition to what the core provides."""
 
     __slots__ = ()
@@ -51,9 +58,28 @@ class _Network(Generic[Address]):
 
     if TYPE_CHECKING:
 
-        @property
-        def prefixlen(self) -> int:
+        def to_ipaddress(self) -> Union[IPv4Interface, IPv6Interface]:
             ...
+
+    @property
+    def hostmask(self) -> Address:
+        """The address whose set bits are the host bits of the network.
+
+        >>> IPv4Network("10.0.0.0/8").hostmask
+        IPv4Address('0.255.255.255')
+        """
+        zeros = bytes(self.max_prefixlen // 8)
+        return core.of_packed(type(self), zeros, self.prefixlen).broadcast_address
+
+    @property
+    def reverse_pointer(self) -> str:
+        """The name that ``ipaddress`` gives to the network without host bits, in which the prefix
+        length stands too. The name of an address in the DNS is ``network.ip.reverse_pointer``.
+
+        >>> IPv4Network("192.0.2.128/25").reverse_pointer
+        '128/25.2.0.192.in-addr.arpa'
+        """
+        return self.to_ipaddress().network.reverse_pointer
 
     @classmethod
     def of(cls, address: Address, prefixlen: SupportsIndex) -> Self:
@@ -76,17 +102,69 @@ class _Network(Generic[Address]):
         >>> list(IPv4Network("10.0.0.0/8").subnets(new_prefix=9))
         [IPv4Network('10.0.0.0/9'), IPv4Network('10.128.0.0/9')]
         """
+        prefix = self._prefix(1, prefixlen_diff, new_prefix)
+        if new_prefix is None and self.prefixlen == self.max_prefixlen:
+            prefix = self.prefixlen
+        return _subnets(self, self._longer(prefix), 2 ** (prefix - self.prefixlen))
+
+    def _prefix(
+        self, sign: int, prefixlen_diff: SupportsIndex, new_prefix: Union[SupportsIndex, None]
+    ) -> int:
+        """The prefix length that is given by its difference, of this sign, or by itself."""
         difference = index(prefixlen_diff)
-        if new_prefix is not None:
-            if difference != 1:
-                raise ValueError("cannot set prefixlen_diff and new_prefix")
-            difference = index(new_prefix) - self.prefixlen
-        elif self.prefixlen == self.max_prefixlen:
-            difference = 0
-        prefix = self.prefixlen + difference
+        if new_prefix is None:
+            return self.prefixlen + sign * difference
+        if difference != 1:
+            raise ValueError("cannot set prefixlen_diff and new_prefix")
+        return index(new_prefix)
+
+    def _longer(self, prefix: int) -> int:
+        """This prefix length, if networks within this one may have it; else ValueError."""
         if not self.prefixlen <= prefix <= self.max_prefixlen:
             raise ValueError(f"{prefix} is no prefix length of subnets of {self!r}")
-        return _subnets(self, prefix, 2**difference)
+        return prefix
+
+    def supernet(
+        self, prefixlen_diff: SupportsIndex = 1, new_prefix: Union[SupportsIndex, None] = None
+    ) -> Self:
+        """The network without host bits that has this one, of a prefix length that is less by
+        ``prefixlen_diff``, or of ``new_prefix`` if it is given; of prefix length 0, if this one
+        has it. Else ValueError if the prefix length is greater than the network's, or less than 0.
+
+        >>> IPv4Network("10.1.9.32/16").supernet(new_prefix=12)
+        IPv4Network('10.0.0.0/12')
+        """
+        prefix = self.prefixlen and self._prefix(-1, prefixlen_diff, new_prefix)
+        if not 0 <= prefix <= self.prefixlen:
+            raise ValueError(f"{prefix} is no prefix length of a supernet of {self!r}")
+        wider = core.of_packed(type(self), self._row[:-1], prefix)
+        return core.of_rows(type(self), core.block_row(wider))[0]
+
+    def hosts(self) -> Iterator[Address]:
+        """The members that a host may have, in ascending order: all but the first, which for IPv4
+        names the network and for IPv6 its routers, and for IPv4 but the last, to broadcast. Of a
+        network of one or two addresses these are all of its members.
+
+        >>> list(IPv4Network("192.0.2.0/30").hosts())
+        [IPv4Address('192.0.2.1'), IPv4Address('192.0.2.2')]
+        """
+        first, last = int(self.network_address), int(self.broadcast_address)
+        if last - first > 1:
+            first, last = first + 1, last - (self.version == 4)
+        return map(self._address, range(first, last + 1))
+
+    def address_exclude(self, other: Self) -> Iterator[Self]:
+        """The fewest networks with the members that are not in ``other``, those of the least prefix
+        length first; none if it has the same members. TypeError if ``other`` is not a network of
+        the family; ValueError if it is not part of this one.
+
+        >>> list(IPv4Network("10.0.0.0/8").address_exclude(IPv4Network("10.0.0.0/10")))
+        [IPv4Network('10.128.0.0/9'), IPv4Network('10.64.0.0/10')]
+        """
+        if not self.supernet_of(other):
+            raise ValueError(f"{other!r} is not part of {self!r}")
+        rows = core.operate("-", self.version, core.block_row(self), core.block_row(other))
+        return iter(sorted(core.of_rows(type(self), rows), key=attrgetter("prefixlen")))
 
     @classmethod
     def read_column(
@@ -180,7 +258,8 @@ class IPv6Network(_Network[IPv6Address], core.V6):
     """An IPv6 network: an address, which may have host bits, and a prefix length from 0 to 128.
 
     ``address in network`` tells whether an address is a member, ``network[i]`` is the member of a
-    number, and to go through a network gives its members, in ascending order.
+    number, and to go through a network gives its members, in ascending order. An address with a
+    zone is asked by its address; a text with one is no address.
 
     >>> IPv6Address("2001:db8::1") in IPv6Network("2001:db8::/32")
     True
@@ -223,6 +302,10 @@ def copied(given: _Kind, memo: Union[dict[int, Any], None] = None) -> _Kind:
 core.register(IPv4Network, IPv6Network)
 _UNCHANGED = (IPv4Network, IPv6Network)
 Either = Union[IPv4Network, IPv6Network]
+#: What a set is made of.
+Given = Union[Either, TheirV4, TheirV6, str]
+#: Iterables that are not taken for one of networks.
+SINGLE = (str, bytes, bytearray, memoryview, IPv4Network, IPv6Network, TheirV4, TheirV6)
 _Net = TypeVar("_Net", IPv4Network, IPv6Network)
 
 if TYPE_CHECKING:
@@ -251,8 +334,8 @@ if TYPE_CHECKING:
         ...
 
     def unmapped(address: EitherAddress) -> EitherAddress:
-        """The IPv4 address in an IPv4-mapped IPv6 address, one of ``::ffff:0:0/96``. Any other
-        address, and one with a zone, is returned as it is."""
+        """The IPv4 address in an IPv4-mapped IPv6 address, one of ``::ffff:0:0/96``, with or
+        without a zone. Any other address is returned as it is."""
 
 else:
     read_address, unmapped = core.read_address, core.unmapped
@@ -280,6 +363,38 @@ def no_network(given: object) -> TypeError:
     elif isinstance(given, (IPv4Address, IPv6Address)):
         hint = ": IPv4Network.of and IPv6Network.of make one of it"
     return TypeError(f"a network is IPv4Network or IPv6Network of ipnetwork, not {name}{hint}")
+
+
+def network_of(given: object) -> Either:
+    """The network that an object is, of this package or of ``ipaddress``, or that a text names."""
+    if isinstance(given, (IPv4Network, IPv6Network)):
+        return given
+    if isinstance(given, str):
+        return ip_network(given)
+    if isinstance(given, (TheirV4, TheirV6)):
+        return from_ipaddress(given)
+    raise no_network(given)
+
+
+def rows_of_networks(networks: Iterable[Given]) -> tuple[bytes, bytes]:
+    """The structs of the IPv4 and of the IPv6 networks that ``network_of`` takes from an iterable;
+    an error has the number of the element, counted from 0."""
+    if isinstance(networks, SINGLE):
+        raise TypeError(f"networks are given in an iterable, not as one {type(networks).__name__}")
+    rows = [
+        given._row if isinstance(given, _UNCHANGED) else _row_of(number, given)
+        for number, given in enumerate(networks)
+    ]
+    fours, sixes = ([row for row in rows if len(row) == step] for step in (5, 17))
+    return b"".join(fours), b"".join(sixes)
+
+
+def _row_of(number: int, given: object) -> bytes:
+    """The struct of the network that an element is."""
+    try:
+        return network_of(given)._row
+    except (NetworkError, TypeError) as refused:
+        raise type(refused)(f"network {number}: {refused}") from None
 
 
 def family(network: _Net) -> type[_Net]:
@@ -325,7 +440,7 @@ def from_ipaddress(given: Union[TheirV6, IPv6Interface]) -> IPv6Network:
 
 def from_ipaddress(given: Union[TheirV4, TheirV6, IPv4Interface, IPv6Interface]) -> Either:
     """The network with the address and prefix length of a network or an interface of ``ipaddress``,
-    of either family; AddressError if it has a zone.
+    of either family; AddressError if it has a zone, which no network keeps.
 
     >>> from ipaddress import ip_interface
     >>> from_ipaddress(ip_interface("2001:db8::7/64"))

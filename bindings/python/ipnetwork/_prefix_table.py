@@ -2,7 +2,15 @@
 
 from __future__ import annotations
 
-from collections.abc import ItemsView, Iterable, Iterator, Mapping, MutableMapping, ValuesView
+from collections.abc import (
+    ItemsView,
+    Iterable,
+    Iterator,
+    KeysView,
+    Mapping,
+    MutableMapping,
+    ValuesView,
+)
 from ipaddress import IPv4Address, IPv6Address, ip_address
 from ipaddress import IPv4Network as TheirV4
 from ipaddress import IPv6Network as TheirV6
@@ -57,12 +65,17 @@ class PrefixTable(Joins[Value], MutableMapping[Either, Value]):
 
     Its keys are networks without host bits: ``table[network]`` is the value of that network, given
     with or without host bits, and ``table[address]`` that of the longest network that has the
-    address. Iteration gives the networks in the order in which they were inserted, as for a
-    ``dict``. An address cannot be inserted or removed.
+    address. A network of one address that is no key is asked about as that address, by ``table[]``,
+    ``get`` and ``in``. What changes the table, and ``keys()`` and ``items()``, know only keys.
+    Iteration gives the networks in the order in which they were inserted, as for a ``dict``. An
+    address cannot be inserted or removed.
 
-    With ``mapped``, an IPv4-mapped IPv6 address that is asked about counts as the IPv4 address.
-    Without it, ``::ffff:10.1.2.3``, as a socket for both families reports an IPv4 peer, is found in
-    no IPv4 network.
+    With ``mapped``, what is said of either form counts: an IPv4-mapped IPv6 address is a member if
+    the IPv4 address, or the IPv6 address as it stands, is one; its longest network is that of the
+    IPv4 address, and if there is none that of the IPv6 address; and so for a network within
+    ::ffff:0:0/96. Without it, ``::ffff:10.1.2.3``, as a socket for both families reports an IPv4
+    peer, is found in no IPv4 network. A key is first asked for as it stands. An address with a zone
+    is asked by its address; a text with one is no address.
 
     >>> table = PrefixTable({ip_network("10.0.0.0/8"): "lab"})
     >>> table[ip_network("10.1.9.32/16")] = "cellar"
@@ -70,6 +83,8 @@ class PrefixTable(Joins[Value], MutableMapping[Either, Value]):
     ('cellar', 'lab')
     >>> IPv4Address("8.8.8.8") in table, table.get(IPv4Address("8.8.8.8"), "none")
     (False, 'none')
+    >>> table[ip_network("10.1.2.3")], ip_network("10.1.2.3") in table.keys()
+    ('cellar', False)
     >>> list(table)
     [IPv4Network('10.0.0.0/8'), IPv4Network('10.1.0.0/16')]
     """
@@ -107,9 +122,7 @@ class PrefixTable(Joins[Value], MutableMapping[Either, Value]):
 
     def _key(self, network: object) -> bytes:
         if isinstance(network, _NETWORKS):
-            key = core.block_row(network)
-            if key is not None:
-                return key
+            return core.block_row(network)
         raise no_network(network)
 
     def _know(self, prefix: int, version: int) -> None:
@@ -135,10 +148,6 @@ class PrefixTable(Joins[Value], MutableMapping[Either, Value]):
 
     def _found(self, asked: object) -> Union[tuple[bytes, Value], None]:
         """The key and the value of the longest network that has all that is asked about."""
-        if self._mapped and isinstance(asked, IPv6Address):
-            asked = unmapped(asked)
-        elif self._mapped:
-            asked = unmapped_network(asked)
         ready = self._ready
         if ready is not None and isinstance(asked, _ADDRESSES):
             number = core.table_find(ready.search, asked)
@@ -152,34 +161,48 @@ class PrefixTable(Joins[Value], MutableMapping[Either, Value]):
         try:
             if isinstance(asked, _ADDRESSES) and self._ready is None and self._search_for(1):
                 return self._found(asked)
-            longest = core.longest_key(self._values, self._fours, self._sixes, asked)
-            return None if longest is None else (longest, self._values[longest])
+            for form in self._forms(asked):
+                longest = core.longest_key(self._values, self._fours, self._sixes, form)
+                if longest is not None:
+                    return longest, self._values[longest]
+            return None
         finally:
             self._lock.release()
 
+    def _forms(self, asked: object) -> tuple[object, ...]:
+        """What is asked about; with ``mapped``, after the IPv4 address or network in it."""
+        if not self._mapped:
+            return (asked,)
+        four: object = unmapped_network(asked)
+        if isinstance(asked, IPv6Address):
+            four = unmapped(asked)
+        return (asked,) if four is asked else (four, asked)
+
     def _value_of(self, asked: object) -> Any:
         """The value of a network, or of the longest network that has an address, or ``_NO_KEY``."""
-        if isinstance(asked, _ADDRESSES):
-            found = self._found(asked)
-            return _NO_KEY if found is None else found[1]
         if isinstance(asked, _ALL_NETWORKS):
-            key = core.block_row(asked)
-            return _NO_KEY if key is None else self._values.get(key, _NO_KEY)
-        raise TypeError(
-            "a table is asked about a network, or an address of ipaddress, not "
-            f"{type(asked).__name__}"
-        )
+            value = self._values.get(core.block_row(asked), _NO_KEY)
+            if value is not _NO_KEY or asked.prefixlen < asked.max_prefixlen:
+                return value
+            asked = asked.network_address
+        elif not isinstance(asked, _ADDRESSES):
+            raise TypeError(
+                "a table is asked about a network, or an address of ipaddress, not "
+                f"{type(asked).__name__}"
+            )
+        found = self._found(asked)
+        return _NO_KEY if found is None else found[1]
 
     @property
     def mapped(self) -> bool:
-        """Whether an IPv4-mapped address that is asked about counts as the IPv4 address."""
+        """Whether an IPv4-mapped address is found in either of its forms."""
         return self._mapped
 
     # The methods of a mapping.
 
     def __getitem__(self, asked: Asked) -> Value:
-        """The value of a network, or of the longest network that has an address; KeyError if there
-        is none."""
+        """The value of a network, or of the longest network that has an address, which a network of
+        one address may stand for; KeyError if there is none."""
         value = self._value_of(asked)
         if value is _NO_KEY:
             raise KeyError(asked)
@@ -270,13 +293,20 @@ class PrefixTable(Joins[Value], MutableMapping[Either, Value]):
         ...
 
     def get(self, asked: Asked, default: object = None, /) -> Any:
-        """The value of a network, or of the longest network that has an address, or else the
-        default."""
+        """The value of a network, or of the longest network that has an address, which a network of
+        one address may stand for, or else the default. Of a network of more addresses that is no
+        key, ``longest`` gives the longest one with all of them.
+
+        >>> table = PrefixTable({ip_network("10.0.0.0/8"): "deny"})
+        >>> table.get(ip_network("10.1.1.1"), "allow"), table.get(ip_network("10.1.1.0/24"))
+        ('deny', None)
+        """
         value = self._value_of(asked)
         return default if value is _NO_KEY else value
 
     def __contains__(self, asked: object) -> bool:
-        """Whether the table has a network, or one that has an address."""
+        """Whether the table has a network, or one that has an address, which a network of one
+        address may stand for."""
         return self._value_of(asked) is not _NO_KEY
 
     def longest(self, asked: Asked) -> Union[tuple[Either, Value], None]:
@@ -322,6 +352,10 @@ class PrefixTable(Joins[Value], MutableMapping[Either, Value]):
         """The networks, in the order in which they were inserted. RuntimeError if one is inserted
         or removed during the iteration."""
         return map(_network, self._values)
+
+    def keys(self) -> KeysView[Either]:
+        """The networks."""
+        return _Keys(self)
 
     def items(self) -> ItemsView[Either, Value]:
         """The networks with their values."""
@@ -377,8 +411,20 @@ def _empty(kind: type[PrefixTable[Value]], mapped: bool) -> PrefixTable[Value]:
     return made
 
 
+class _Keys(KeysView[Either]):
+    _mapping: PrefixTable[Any]
+
+    def __contains__(self, network: object) -> bool:
+        if not isinstance(network, _ALL_NETWORKS):
+            return False
+        return core.block_row(network) in self._mapping._values
+
+
 class _Items(ItemsView[Either, Value]):
     _mapping: PrefixTable[Value]
+
+    def __contains__(self, item: Any) -> bool:
+        return item[0] in self._mapping.keys() and super().__contains__(item)
 
     def __iter__(self) -> Iterator[tuple[Either, Value]]:
         for key, value in self._mapping._values.items():

@@ -5,19 +5,23 @@ from __future__ import annotations
 from collections.abc import Iterable, Iterator
 from ipaddress import IPv4Network as TheirV4
 from ipaddress import IPv6Network as TheirV6
-from typing import TYPE_CHECKING, Literal, Union
+from operator import index
+from typing import TYPE_CHECKING, Literal, SupportsIndex, Union
 
 from ._chosen import core
 from ._networks import (
+    SINGLE,
     Either,
     EitherAddress,
+    Given,
     IPv4Network,
     IPv6Network,
     checked,
     copied,
-    no_network,
+    network_of,
     of_rows,
     range_rows,
+    rows_of_networks,
     unmapped_network,
 )
 from ._rows import packed
@@ -29,22 +33,30 @@ if TYPE_CHECKING:
 
 _ALL_FOURS, _ALL_SIXES = bytes(5), bytes(17)  # 0.0.0.0/0 and ::/0
 _ALL_MAPPED = bytes(10) + b"\xff\xff" + bytes(4) + b"\x60"  # ::ffff:0:0/96
+#: By the prefix length of an IPv4 network, that of the network of the IPv4-mapped addresses.
+_MAPPED_PREFIXES = bytes((prefix + 96) % 256 for prefix in range(256))
 
 
 class AddressSet:
     """A set of addresses of either family, made from networks in any order and with or without host
-    bits. It does not change.
+    bits. It does not change. The networks are those of this package or of ``ipaddress``, or texts
+    that ``ip_network`` reads; a text that it does not read is an error with its number and itself.
 
     It holds the fewest networks that have these addresses, so sets with the same addresses are
     equal, whatever networks they were made from. Iteration gives these networks, and ``len`` their
     number. ``in`` takes an address, or a network of this package or of ``ipaddress``, which is in
-    the set if all of its addresses are. ``<=`` and ``<`` tell whether one set is part of another.
+    the set if all of its addresses are. ``|``, ``&``, ``-`` and ``^`` take another set, or any
+    iterable of what a set is made from; ``<=`` and ``<`` tell whether one set is part of another.
     ``AddressSetBuilder`` makes a set step by step.
 
-    With ``mapped``, an IPv4-mapped IPv6 address that is asked about counts as the IPv4 address.
-    Without it, ``::ffff:10.1.9.32``, as a socket for both families reports an IPv4 peer, is in no
-    set of IPv4 networks. The option only affects questions, and the sets made from this one keep
-    it: it changes neither the networks of a set nor which sets are equal.
+    With ``mapped``, what is said of either form counts: an IPv4-mapped IPv6 address is a member if
+    the IPv4 address, or the IPv6 address as it stands, is one; its longest network is that of the
+    IPv4 address, and if there is none that of the IPv6 address; and so for a network within
+    ::ffff:0:0/96. Without it, ``::ffff:10.1.9.32``, as a socket for both families reports an IPv4
+    peer, is in no set of IPv4 networks. The option changes neither the networks of a set nor which
+    sets are equal. The sets made from this one keep it, and of two sets both are taken to have it
+    if one does. An IPv4-mapped address is a member of a difference or a complement as long as its
+    IPv4 address is. An address with a zone is asked by its address; a text with one is no address.
 
     The first question about an address or a network makes an index, which the set keeps: 16 bytes
     for each network, and at most 4 MB for each family.
@@ -65,6 +77,8 @@ class AddressSet:
     >>> peer = IPv6Address("::ffff:10.1.9.32")
     >>> peer in one, peer in AddressSet(one, mapped=True)
     (False, True)
+    >>> one | ["2001:db8::/32"]
+    AddressSet([IPv4Network('10.0.0.0/9'), IPv6Network('2001:db8::/32')])
     """
 
     __slots__ = ("__weakref__", "_fours", "_mapped", "_search", "_sixes")
@@ -75,21 +89,13 @@ class AddressSet:
     #: The blocks of both families with their indexes, after the first question.
     _search: Union[tuple[bytes, bytes, bytes, bytes, bool], None]
 
-    def __init__(self, networks: Iterable[Either] = (), *, mapped: bool = False) -> None:
+    def __init__(self, networks: Iterable[Given] = (), *, mapped: bool = False) -> None:
         if hasattr(self, "_fours"):
             raise TypeError("a set is made once, and does not change")
-        fours: list[bytes] = []
-        sixes: list[bytes] = []
-        for network in networks:
-            if isinstance(network, IPv4Network):
-                fours.append(network._row)
-            elif isinstance(network, IPv6Network):
-                sixes.append(network._row)
-            else:
-                raise no_network(network)
-        self._sixes = core.aggregate(6, b"".join(sixes))
+        fours, sixes = rows_of_networks(networks)
+        self._sixes = core.aggregate(6, sixes)
         self._mapped, self._search = bool(mapped) or _is_mapped(networks), None
-        self._fours = core.aggregate(4, b"".join(fours))
+        self._fours = core.aggregate(4, fours)
 
     @staticmethod
     def _of(fours: bytes, sixes: bytes, mapped: bool = False) -> AddressSet:
@@ -100,7 +106,7 @@ class AddressSet:
 
     @property
     def mapped(self) -> bool:
-        """Whether an IPv4-mapped address that is asked about counts as the IPv4 address."""
+        """Whether an IPv4-mapped address is a member in either of its forms."""
         return self._mapped
 
     def _indexed(self) -> tuple[bytes, bytes, bytes, bytes, bool]:
@@ -116,16 +122,31 @@ class AddressSet:
     def _has(self, asked: object) -> bool:
         """Whether an address, or each address of a network, is in the set."""
         search = self._search or self._indexed()
+        if core.set_contains(search, asked):
+            return True
         if not self._mapped or not isinstance(asked, (IPv6Network, TheirV6)):
-            return core.set_contains(search, asked)
-        asked = unmapped_network(asked)
+            return False
         row = core.block_row(asked)
-        if row is None or core.is_empty("&", 6, row if len(row) == 17 else b"", _ALL_MAPPED):
-            return core.set_contains(search, asked)
-        # If a network has all IPv4-mapped addresses and others, the mapped ones are asked about as
-        # IPv4 addresses.
-        rest = core.operate("-", 6, row, _ALL_MAPPED)
-        return self._fours == _ALL_FOURS and core.is_empty("-", 6, rest, self._sixes)
+        if core.is_empty("&", 6, row, _ALL_MAPPED):
+            return False
+        if core.set_contains(search, unmapped_network(asked)):
+            return True
+        # Some of its addresses may be members in one form, and the others in the other form.
+        return core.set_contains(search, asked.network_address) and core.is_empty(
+            "-", 6, row, self._six_members(True)
+        )
+
+    def _six_members(self, mapped: bool) -> bytes:
+        """The blocks of the IPv6 members; with ``mapped``, also of the IPv4-mapped addresses whose
+        IPv4 addresses are members."""
+        if not mapped:
+            return self._sixes
+        rows = bytearray(len(self._fours) // 5 * 17)
+        rows[10::17] = rows[11::17] = b"\xff" * (len(self._fours) // 5)
+        for octet in range(4):
+            rows[12 + octet :: 17] = self._fours[octet::5]
+        rows[16::17] = self._fours[4::5].translate(_MAPPED_PREFIXES)
+        return core.operate("|", 6, self._sixes, bytes(rows))
 
     @staticmethod
     def of_ranges(
@@ -146,21 +167,39 @@ class AddressSet:
         return AddressSet._of(fours, sixes, bool(mapped))
 
     def _operated(self, operation: str, other: AddressSet) -> AddressSet:
-        return AddressSet._of(
-            core.operate(operation, 4, self._fours, other._fours),
-            core.operate(operation, 6, self._sixes, other._sixes),
-            self._mapped or other._mapped,
-        )
+        if operation == "^":
+            return self._operated("-", other)._operated("|", other._operated("-", self))
+        fours = core.operate(operation, 4, self._fours, other._fours)
+        sixes, *more = [core.operate(operation, 6, *pair) for pair in self._pairs(operation, other)]
+        for each in more:
+            sixes = core.operate("|", 6, sixes, each)
+        return AddressSet._of(fours, sixes, self._mapped or other._mapped)
+
+    def _pairs(self, operation: str, other: AddressSet) -> list[tuple[bytes, bytes]]:
+        """The IPv6 blocks of two sets, as pairs: the results of an operation on these are together
+        the result. With ``mapped``, a block counts if the other set has it in either form."""
+        mapped = operation != "|" and (self._mapped or other._mapped)
+        pairs = [(self._sixes, other._six_members(mapped))]
+        if mapped and operation == "&":
+            pairs.append((self._six_members(mapped), other._sixes))
+        return pairs
+
+    def _operator(self, operation: str, other: object, turned: bool = False) -> AddressSet:
+        """The result of an operator with another set, or with another iterable of networks, which
+        stands before the operator if it is ``turned``."""
+        if isinstance(other, SINGLE) or not isinstance(other, Iterable):
+            return NotImplemented
+        one, another = self, _as_set(other)
+        return another._operated(operation, one) if turned else one._operated(operation, another)
 
     def _has_none(self, operation: str, other: AddressSet) -> bool:
         """Whether the result of an operation has no addresses."""
-        return core.is_empty(operation, 4, self._fours, other._fours) and core.is_empty(
-            operation, 6, self._sixes, other._sixes
+        return core.is_empty(operation, 4, self._fours, other._fours) and all(
+            core.is_empty(operation, 6, *pair) for pair in self._pairs(operation, other)
         )
 
     def __contains__(self, asked: Union[AnyAddress, TheirV4, TheirV6]) -> bool:
-        """Whether an address, or each address of a network, is in the set. An address with a zone
-        is not."""
+        """Whether an address, or each address of a network, is in the set."""
         if self._mapped:
             return self._has(asked)
         return core.set_contains(self._search or self._indexed(), asked)
@@ -187,23 +226,45 @@ class AddressSet:
         """
         return core.set_contains_column(self._search or self._indexed(), packed(addresses))
 
-    def __or__(self, other: AddressSet) -> AddressSet:
+    def first_free(self, prefix: SupportsIndex, within: Given) -> Union[Either, None]:
+        """The first block of a prefix length within a network that has no address of the set, or
+        None if there is none. ValueError if no block within the network has this prefix length.
+
+        >>> taken = AddressSet(["10.0.0.0/25", "10.0.1.0/24"])
+        >>> taken.first_free(24, ip_network("10.0.0.0/8"))
+        IPv4Network('10.0.2.0/24')
+        """
+        network = network_of(within)
+        length, version = network._longer(index(prefix)), network.version
+        taken = self._fours if version == 4 else self._six_members(self._mapped)
+        free = core.operate("-", version, core.block_row(network), taken)
+        width = network.max_prefixlen // 8
+        for at in range(0, len(free), width + 1):
+            if free[at + width] <= length:
+                return next(of_rows(free[at : at + width] + bytes([length]), version))
+        return None
+
+    def __or__(self, other: Iterable[Given]) -> AddressSet:
         """The addresses that are in at least one of the two sets."""
-        return self._operated("|", other) if isinstance(other, AddressSet) else NotImplemented
+        return self._operator("|", other)
 
-    def __and__(self, other: AddressSet) -> AddressSet:
+    def __and__(self, other: Iterable[Given]) -> AddressSet:
         """The addresses that are in both sets."""
-        return self._operated("&", other) if isinstance(other, AddressSet) else NotImplemented
+        return self._operator("&", other)
 
-    def __sub__(self, other: AddressSet) -> AddressSet:
+    def __sub__(self, other: Iterable[Given]) -> AddressSet:
         """The addresses that are in this set and not in the other."""
-        return self._operated("-", other) if isinstance(other, AddressSet) else NotImplemented
+        return self._operator("-", other)
 
-    def __xor__(self, other: AddressSet) -> AddressSet:
+    def __xor__(self, other: Iterable[Given]) -> AddressSet:
         """The addresses that are in exactly one of the two sets."""
-        if not isinstance(other, AddressSet):
-            return NotImplemented
-        return (self - other) | (other - self)
+        return self._operator("^", other)
+
+    __ror__, __rand__, __rxor__ = __or__, __and__, __xor__
+
+    def __rsub__(self, other: Iterable[Given]) -> AddressSet:
+        """The addresses that are in the other and not in this set."""
+        return self._operator("-", other, turned=True)
 
     def complement(self, version: Union[Literal[4, 6], None] = None) -> AddressSet:
         """The addresses that are not in the set: those of one family if ``version`` is 4 or 6, else
@@ -215,7 +276,8 @@ class AddressSet:
         if version not in (None, 4, 6):
             raise ValueError(f"version is 4 or 6, for a family, or None, not {version!r}")
         fours = b"" if version == 6 else core.operate("-", 4, _ALL_FOURS, self._fours)
-        sixes = b"" if version == 4 else core.operate("-", 6, _ALL_SIXES, self._sixes)
+        taken = self._six_members(self._mapped)
+        sixes = b"" if version == 4 else core.operate("-", 6, _ALL_SIXES, taken)
         return AddressSet._of(fours, sixes, self._mapped)
 
     def __invert__(self) -> AddressSet:
@@ -225,9 +287,7 @@ class AddressSet:
     def _is_in(self, other: AddressSet, proper: bool) -> bool:
         """Whether another set has each address of this one and, if ``proper`` is true, also other
         addresses."""
-        return self._has_none("-", other) and not (
-            proper and (self._fours, self._sixes) == (other._fours, other._sixes)
-        )
+        return self._has_none("-", other) and not (proper and other._has_none("-", self))
 
     def __le__(self, other: AddressSet) -> bool:
         """Whether the other set has each address of this one."""
@@ -245,19 +305,19 @@ class AddressSet:
         """Whether this set has each address of the other, and also others."""
         return other._is_in(self, True) if isinstance(other, AddressSet) else NotImplemented
 
-    def isdisjoint(self, other: Iterable[Either]) -> bool:
+    def isdisjoint(self, other: Iterable[Given]) -> bool:
         """Whether this set and another, or networks, have no address in common."""
         return self._has_none("&", _as_set(other))
 
-    def issubset(self, other: Iterable[Either]) -> bool:
+    def issubset(self, other: Iterable[Given]) -> bool:
         """Whether another set, or networks, have each address of this set."""
         return self._has_none("-", _as_set(other))
 
-    def issuperset(self, other: Iterable[Either]) -> bool:
+    def issuperset(self, other: Iterable[Given]) -> bool:
         """Whether this set has each address of another, or of networks."""
         return _as_set(other)._has_none("-", self)
 
-    def union(self, *others: Iterable[Either]) -> AddressSet:
+    def union(self, *others: Iterable[Given]) -> AddressSet:
         """The addresses of this set and of others, or of networks."""
         each = [self, *map(_as_set, others)]
         return AddressSet._of(
@@ -266,20 +326,20 @@ class AddressSet:
             any(one._mapped for one in each),
         )
 
-    def intersection(self, *others: Iterable[Either]) -> AddressSet:
+    def intersection(self, *others: Iterable[Given]) -> AddressSet:
         """The addresses that are in this set and in each of the others."""
         common = self
         for other in others:
             common = common._operated("&", _as_set(other))
         return common._operated("|", _NONE)
 
-    def difference(self, *others: Iterable[Either]) -> AddressSet:
+    def difference(self, *others: Iterable[Given]) -> AddressSet:
         """The addresses that are in this set and in none of the others."""
         return self._operated("-", _NONE.union(*others))
 
-    def symmetric_difference(self, other: Iterable[Either]) -> AddressSet:
+    def symmetric_difference(self, other: Iterable[Given]) -> AddressSet:
         """The addresses that are in exactly one of this set and another."""
-        return self ^ _as_set(other)
+        return self._operated("^", _as_set(other))
 
     def __iter__(self) -> Iterator[Either]:
         """The fewest networks that have these addresses, in ascending order, IPv4 first."""
@@ -351,7 +411,7 @@ def _unpickled(kind: type[AddressSet], fours: bytes, sixes: bytes, mapped: bool)
     return made
 
 
-def _is_mapped(networks: Iterable[Either]) -> bool:
+def _is_mapped(networks: Iterable[Given]) -> bool:
     return isinstance(networks, AddressSet) and networks._mapped
 
 
@@ -360,7 +420,7 @@ def _follows(address: EitherAddress, last: EitherAddress) -> bool:
     return address.version == last.version and int(address) == int(last) + 1
 
 
-def _as_set(networks: Iterable[Either]) -> AddressSet:
+def _as_set(networks: Iterable[Given]) -> AddressSet:
     return networks if isinstance(networks, AddressSet) else AddressSet(networks)
 
 

@@ -79,7 +79,7 @@ static PyObject *ranges(PyObject *module, PyObject *arguments) {
 }
 
 /* A search of a table: its ranges of both families, the number of each and their indexes, as `ranges` leaves them; and
- * whether an IPv4-mapped address counts as the IPv4 address. */
+ * whether an IPv4-mapped address is found in either form, first as the IPv4 address. */
 typedef struct {
     searched_list fours, sixes;
     const int64_t *four_numbers, *six_numbers;
@@ -105,11 +105,12 @@ static int parse_table(PyObject *given, Table *table) {
  * IPNETWORK_NO_FAMILY if the length is neither 0, 4 nor 16. */
 static inline ipnetwork_fault table_has(const Table *table, const ipnetwork_address *address, int64_t *number) {
     uint8_t octets[16]; /* a call that is not made takes so many */
+    *number = -1;
     if (address->length == 4) *number = number_of(&table->fours, table->four_numbers, address->octets);
     else if (address->length == 16 && table->mapped && ipnetwork_v6_unmapped(address->octets, octets) == IPNETWORK_OK)
         *number = number_of(&table->fours, table->four_numbers, octets);
-    else if (address->length == 16) *number = number_of(&table->sixes, table->six_numbers, address->octets);
-    else *number = -1;
+    if (address->length == 16 && *number < 0)
+        *number = number_of(&table->sixes, table->six_numbers, address->octets);
     return address->length == 4 || address->length == 16 || address->length == 0 ? IPNETWORK_OK : IPNETWORK_NO_FAMILY;
 }
 
@@ -124,7 +125,6 @@ static PyObject *table_find(PyObject *module, PyObject *arguments) {
     int kind = alone_of(state, given, &address);
     if (kind == NO_ADDRESS && no_member(state, given, kind) == 0)
         PyErr_Format(PyExc_TypeError, "%R has more than one address, and one is asked about", given);
-    if (kind == HAS_ZONE) return PyLong_FromLong(-1);
     if (kind != IS_ADDRESS) return NULL;
     return answered(table_has(&table, &address, &number)) ? PyLong_FromLongLong(number) : NULL;
 }
@@ -165,7 +165,7 @@ static ipnetwork_fault numbers_of(const searched_list *ranges, const int64_t *nu
 }
 
 /* Adds the addresses of `count` rows to those of their families, and writes -1 for each row; with `mapped`, a
- * compile-time constant, an IPv4-mapped one as the IPv4 address. IPNETWORK_NO_FAMILY, with the number of the
+ * compile-time constant, an IPv4-mapped one first as the IPv4 address. IPNETWORK_NO_FAMILY, with the number of the
  * row, if a length is neither 0, 4 nor 16. */
 __attribute__((always_inline)) static inline ipnetwork_fault by_family(const ipnetwork_address *addresses, size_t count,
                                                                        int mapped, Asked *fours, Asked *sixes,
@@ -192,7 +192,12 @@ static ipnetwork_fault table_has_rows(const Table *table, const ipnetwork_addres
     ipnetwork_fault fault = table->mapped ? by_family(addresses, count, 1, &fours, &sixes, told, row)
                                           : by_family(addresses, count, 0, &fours, &sixes, told, row);
     if (fault == IPNETWORK_OK) fault = numbers_of(&table->fours, table->four_numbers, &fours, told);
-    return fault != IPNETWORK_OK ? fault : numbers_of(&table->sixes, table->six_numbers, &sixes, told);
+    if (fault != IPNETWORK_OK) return fault;
+    for (size_t at = 0; table->mapped && at < fours.count; at++) {
+        const ipnetwork_address *address = &addresses[fours.rows[at]];
+        if (told[fours.rows[at]] < 0 && address->length == 16) ask(&sixes, fours.rows[at], address->octets, 16);
+    }
+    return numbers_of(&table->sixes, table->six_numbers, &sixes, told);
 }
 
 /* table_find_column(search, addresses): a number for each of the addresses, which are as `read_rows` leaves them. */

@@ -31,15 +31,15 @@ class _Blocks(NamedTuple):
     six_numbers: bytes
 
     def search(self, mapped: bool) -> Search:
-        """The search in these networks; with ``mapped``, an IPv4-mapped address counts as the IPv4
-        address."""
+        """The search in these networks; with ``mapped``, an IPv4-mapped address is found in either
+        form."""
         fours = core.ranges(4, self.fours, self.four_numbers)
         return Search(*fours, *core.ranges(6, self.sixes, self.six_numbers), mapped)
 
 
 class Search(NamedTuple):
     """The ranges of addresses that have the same longest network, the number of that network or -1,
-    and an index of the ranges; and whether an IPv4-mapped address counts as the IPv4 address."""
+    and an index of the ranges; and whether an IPv4-mapped address is found in either form."""
 
     fours: bytes
     four_numbers: bytes
@@ -114,9 +114,12 @@ class Table(Joins[Value]):
     The first question makes an index, which the table keeps: at most 58 bytes for each IPv4
     network, and 82 for each IPv6 network.
 
-    With ``mapped``, an IPv4-mapped IPv6 address that is asked about counts as the IPv4 address.
-    Without it, ``::ffff:10.1.2.3``, as a socket for both families reports an IPv4 peer, is found in
-    no IPv4 network.
+    With ``mapped``, what is said of either form counts: an IPv4-mapped IPv6 address is a member if
+    the IPv4 address, or the IPv6 address as it stands, is one; its longest network is that of the
+    IPv4 address, and if there is none that of the IPv6 address; and so for a network within
+    ::ffff:0:0/96. Without it, ``::ffff:10.1.2.3``, as a socket for both families reports an IPv4
+    peer, is found in no IPv4 network. An address with a zone is asked by its address; a text with
+    one is no address.
 
     >>> networks = [ip_network(text) for text in ("10.0.0.0/8", "2001:db8::/32", "10.1.9.32/16")]
     >>> table = Table(networks, ["lab", "office", "cellar"])
@@ -169,13 +172,12 @@ class Table(Joins[Value]):
 
     @property
     def mapped(self) -> bool:
-        """Whether an IPv4-mapped address that is asked about counts as the IPv4 address."""
+        """Whether an IPv4-mapped address is found in either of its forms."""
         return self._mapped
 
     def find(self, address: AnyAddress) -> Union[int, None]:
-        """The number of the longest network that has an address; None if no network has it, as for
-        an address with a zone. A network of one address may be given as that address; any other
-        network is a TypeError."""
+        """The number of the longest network that has an address; None if no network has it. A
+        network of one address may be given as that address; any other network is a TypeError."""
         number = core.table_find(self._search or self._made(), address)
         return None if number < 0 else number
 
