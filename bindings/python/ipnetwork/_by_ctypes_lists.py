@@ -249,7 +249,8 @@ def layout(rows: list[object], missing: object) -> Union[tuple[bytearray, bytear
 
 
 def _offsets_of(given: ReadableBuffer) -> memoryview:
-    """Offsets as numbers of 32 or 64 bits."""
+    """A copy of offsets, as numbers of 32 or 64 bits: what is checked is what is used, whatever
+    another thread writes meanwhile."""
     view = memoryview(given)
     if view.itemsize not in (4, 8):
         raise ValueError(f"offsets are numbers of 32 or of 64 bits, not of {view.itemsize * 8}")
@@ -260,9 +261,8 @@ def _offsets_of(given: ReadableBuffer) -> memoryview:
             "offsets are whole numbers in the order of the machine, not of the format "
             f"{view.format}"
         )
-    if not view.nbytes:
-        return memoryview(b"").cast("I")
-    return view.cast("B").cast("I" if view.itemsize == 4 else "Q")
+    copied = bytes(view.cast("B")) if view.nbytes else b""
+    return memoryview(copied).cast("I" if view.itemsize == 4 else "Q")
 
 
 def _parts(offsets: memoryview) -> Iterator[tuple[int, int]]:

@@ -318,13 +318,12 @@ static PyObject *unmapped(PyObject *module, PyObject *given) {
     return again(given);
 }
 
-/* Writes the addresses of a column unmapped; 0 at the first row that is neither an address nor without
- * one. */
-static int unmap_rows(const ipnetwork_address *addresses, size_t count, ipnetwork_address *rows, size_t *row) {
+/* Replaces the addresses of a column by themselves unmapped; 0 at the first row that is neither an address nor
+ * without one. */
+static int unmap_rows(ipnetwork_address *rows, size_t count, size_t *row) {
     for (*row = 0; *row < count; ++*row) {
-        rows[*row] = addresses[*row];
-        if (addresses[*row].length != 0
-            && ipnetwork_address_unmapped(&addresses[*row], &rows[*row]) != IPNETWORK_OK)
+        ipnetwork_address address = rows[*row];
+        if (address.length != 0 && ipnetwork_address_unmapped(&address, &rows[*row]) != IPNETWORK_OK)
             return 0;
     }
     return 1;
@@ -339,15 +338,14 @@ static PyObject *unmapped_rows(PyObject *module, PyObject *given) {
     size_t count = (size_t)column.len / sizeof(ipnetwork_address), row;
     if ((size_t)column.len % sizeof(ipnetwork_address) != 0) {
         PyErr_Format(PyExc_ValueError, "%zd bytes are no column of addresses of 17 bytes", column.len);
-    } else if ((rows = PyByteArray_FromStringAndSize(NULL, column.len)) != NULL) {
-        const ipnetwork_address *addresses = column.buf;
+    } else if ((rows = PyByteArray_FromStringAndSize(column.buf, column.len)) != NULL) {
         ipnetwork_address *room = (ipnetwork_address *)PyByteArray_AsString(rows);
         int all;
         Py_BEGIN_ALLOW_THREADS
-        all = unmap_rows(addresses, count, room, &row);
+        all = unmap_rows(room, count, &row);
         Py_END_ALLOW_THREADS
         if (!all) {
-            no_such_row((Py_ssize_t)row, addresses[row].length);
+            no_such_row((Py_ssize_t)row, room[row].length);
             Py_CLEAR(rows);
         }
     }
