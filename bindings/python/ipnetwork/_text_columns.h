@@ -150,7 +150,7 @@ static int offsets_of(PyObject *given, Py_buffer *offsets) {
                      offsets->itemsize * 8);
     else if (strlen(format) != 1 || strchr("iIlLqQnN", *format) == NULL)
         PyErr_Format(PyExc_TypeError, "offsets are whole numbers in the order of the machine, not "
-                     "of the format %s", offsets->format);
+                     "of the format %.60s", offsets->format);
     else
         return 1;
     PyBuffer_Release(offsets);
