@@ -5,7 +5,10 @@ import math
 import random
 import unittest
 
-import numpy
+try:
+    import numpy
+except ImportError:
+    raise unittest.SkipTest("there is no NumPy here") from None
 
 from ipnetwork import AddressError, AddressSet, IPv4Network, PrefixTable, Table, ip_network, read_address_column
 from ipnetwork.columns import find, is_member, layout, read_addresses
