@@ -4,14 +4,22 @@
 
 #include "_addresses.h"
 
+/* Whether each of eight bytes is printable ASCII: the first to carry into its highest bit is one that is not. */
+static int is_printable(uint64_t eight) {
+    const uint64_t ones = UINT64_C(0x0101010101010101);
+    return ((eight | (eight - ones * ' ') | (eight + ones)) & ones * 0x80) == 0;
+}
+
 /* Whether bytes may be a packed address, of which NumPy drops the zeros at the end: they are not the text of an
  * address, and have its length of 4 or 16, or are shorter and not printable ASCII. */
 static int may_be_packed(const char *bytes, Py_ssize_t length) {
     ipnetwork_address address;
-    Py_ssize_t at = 0;
+    char padded[17] = "                ";
+    uint64_t halves[2];
     if (length > 16) return 0;
-    while (at < length && bytes[at] >= ' ' && bytes[at] <= '~') at++;
-    return (at < length || length == 4 || length == 16)
+    memcpy(padded, bytes, (size_t)length);
+    memcpy(halves, padded, sizeof halves);
+    return (length == 4 || length == 16 || !is_printable(halves[0]) || !is_printable(halves[1]))
            && ipnetwork_address_read(bytes, (size_t)length, &address) != IPNETWORK_OK;
 }
 
@@ -19,14 +27,14 @@ static int may_be_packed(const char *bytes, Py_ssize_t length) {
 static const char NO_TEXT[] = "";
 
 /* The bytes of a row that is not a str: those of bytes, and NO_TEXT for None, NaN and the value for a missing
- * row; NULL for any other. */
-static const char *other_bytes(PyObject *row, PyObject *missing, Py_ssize_t *length) {
+ * row; NULL for any other, and for bytes that may be a packed address if that is asked. */
+static const char *other_bytes(PyObject *row, PyObject *missing, int asked, Py_ssize_t *length) {
     char *bytes;
     *length = 0;
     if (row == Py_None || row == missing) return NO_TEXT;
     if (PyBytes_Check(row)) {
         if (PyBytes_AsStringAndSize(row, &bytes, length) < 0) return NULL;
-        return may_be_packed(bytes, *length) ? NULL : bytes;
+        return asked && may_be_packed(bytes, *length) ? NULL : bytes;
     }
     if (!PyFloat_Check(row)) return NULL;
     double number = PyFloat_AsDouble(row);
@@ -41,8 +49,8 @@ static const char *no_utf_8(void) {
 
 /* The bytes of a row, for a str in UTF-8; NULL if it cannot be encoded, or is neither a str nor what
  * `other_bytes` takes, with an exception only if memory runs out. */
-static inline const char *row_bytes(PyObject *row, PyObject *missing, Py_ssize_t *length) {
-    if (!PyUnicode_Check(row)) return other_bytes(row, missing, length);
+static inline const char *row_bytes(PyObject *row, PyObject *missing, int asked, Py_ssize_t *length) {
+    if (!PyUnicode_Check(row)) return other_bytes(row, missing, asked, length);
     const char *text = PyUnicode_AsUTF8AndSize(row, length);
     return text != NULL ? text : no_utf_8();
 }
@@ -65,7 +73,7 @@ static PyObject *row_offsets(PyObject *rows, PyObject *missing, size_t *whole, c
         }
         memcpy(offset + (size_t)row * sizeof start, &start, sizeof start);
         if (row == count) break;
-        const char *bytes = row_bytes(PyList_GetItem(rows, row), missing, &length);
+        const char *bytes = row_bytes(PyList_GetItem(rows, row), missing, 1, &length);
         if (bytes == NULL) return Py_DECREF(offsets), NULL;
         faults[row] = bytes == NO_TEXT ? IPNETWORK_ADDRESS : IPNETWORK_OK;
         end += (size_t)length;
@@ -86,7 +94,7 @@ static PyObject *laid_out(PyObject *rows, PyObject *missing) {
     if (texts != NULL) {
         char *text = PyBytes_AsString(texts);
         for (Py_ssize_t row = 0; row < count; row++) {
-            const char *bytes = row_bytes(PyList_GetItem(rows, row), missing, &length);
+            const char *bytes = row_bytes(PyList_GetItem(rows, row), missing, 0, &length);
             memcpy(text, bytes, (size_t)length);
             text += length;
         }

@@ -194,17 +194,17 @@ def read_addresses(
 
 
 def _addresses(
-    given: Column, numbers: Numbers, missing: Missing, invalid: Invalid
-) -> NDArray[numpy.uint8]:
+    given: Any, numbers: Numbers, missing: Missing, invalid: Invalid
+) -> Union[bytearray, memoryview]:
     """The addresses of a column, or those that ``read_addresses`` returned."""
-    if numbers is None and missing is None and isinstance(given, numpy.ndarray):
-        if given.dtype == numpy.uint8 and given.ndim == 2:
-            check_invalid(invalid)
-            if given.shape[1] != _ROW:
-                width = given.shape[1]
-                raise TypeError(f"addresses of read_addresses have {_ROW} bytes each, not {width}")
-            return numpy.ascontiguousarray(given)
-    return read_addresses(given, numbers=numbers, missing=missing, invalid=invalid)[0]
+    if numbers is not None or missing is not None:
+        return read_addresses(given, numbers=numbers, missing=missing, invalid=invalid)[0].data
+    if not isinstance(given, numpy.ndarray) or given.dtype != numpy.uint8 or given.ndim != 2:
+        return read(given, invalid)[0]
+    check_invalid(invalid)
+    if given.shape[1] != _ROW:
+        raise TypeError(f"addresses of read_addresses have {_ROW} bytes each, not {given.shape[1]}")
+    return numpy.ascontiguousarray(given).data
 
 
 @overload
@@ -268,9 +268,9 @@ def is_member(
     chosen = which if isinstance(which, AddressSet) else AddressSet([which])
     addresses = _addresses(given, numbers, missing, invalid)
     search = chosen._indexed()
-    told = core.set_contains_column((*search[:4], mapped or search[4]), addresses.data)
+    told = core.set_contains_column((*search[:4], True) if mapped else search, addresses)
     if invalid == "null":
-        return nulled(given, addresses.data, told, "?")
+        return nulled(given, addresses, told, "?")
     return numpy.frombuffer(told, numpy.bool_)
 
 
@@ -336,8 +336,7 @@ def find(
         )
     addresses = _addresses(given, numbers, missing, invalid)
     search = table._made()
-    search = search._replace(mapped=mapped or search.mapped)
-    told = core.table_find_column(search, addresses.data)
+    told = core.table_find_column(search._replace(mapped=True) if mapped else search, addresses)
     if invalid == "null":
-        return nulled(given, addresses.data, told, "q")
+        return nulled(given, addresses, told, "q")
     return numpy.frombuffer(told, numpy.int64)
