@@ -14,9 +14,11 @@ from ipaddress import IPv4Address, IPv6Address
 
 import ipnetwork
 from ipnetwork import (
+    AddressSet,
     IPv4Network,
     IPv6Network,
     PrefixError,
+    Table,
     print_address_column,
     read_address_column,
 )
@@ -82,7 +84,8 @@ def written_meanwhile(call, buffer, states):
 
 
 def all_written_meanwhile():
-    """The calls that read and print columns, by offsets and rows that turn from right to wrong."""
+    """The calls that read, print and search columns, by offsets and rows that turn from right to
+    wrong."""
     count = 200_000
     texts = bytearray(b"10.1.2.3" * count)
     other = b"::/1/200" * count
@@ -98,6 +101,13 @@ def all_written_meanwhile():
         states = bytes(rows), (b"\1" * (size - 1) + bytes([wrong])) * count
         for bits in (32, 64):
             written_meanwhile(lambda: printed(rows, bits), rows, states)
+    networks = [IPv4Network.of(IPv4Address(number << 12), 20) for number in range(0, 2**20, 16)]
+    networks += [IPv6Network.of(IPv6Address(number << 108), 20) for number in range(0, 2**20, 16)]
+    which, table = AddressSet(networks), Table(networks)
+    rows = bytearray((b"\xfe" * 16 + b"\4") * count)
+    states = bytes(rows), (b"\0\xff" * 8 + b"\x10") * count, b"\5" * len(rows)
+    for call in (which.contains_column, table.find_column):
+        written_meanwhile(lambda: call(rows), rows, states)
 
 
 class Wide(unittest.TestCase):

@@ -241,6 +241,19 @@ static inline ipnetwork_fault set_has(const Set *set, const ipnetwork_address *a
     return list_contains(&set->sixes, address->octets, answer);
 }
 
+/* The answer for each row, up to the first that is no address; the rows are copied, a part at a time. */
+static ipnetwork_fault set_has_rows(const Set *set, const ipnetwork_address *addresses, Py_ssize_t count,
+                                    uint8_t *answers, Py_ssize_t *row) {
+    ipnetwork_address part[PART];
+    for (*row = 0; *row < count; ++*row) {
+        Py_ssize_t at = *row % PART, rest = count - *row;
+        if (at == 0) memcpy(part, addresses + *row, (size_t)(rest < PART ? rest : PART) * sizeof *part);
+        ipnetwork_fault fault = set_has(set, &part[at], &answers[*row]);
+        if (fault != IPNETWORK_OK) return fault;
+    }
+    return IPNETWORK_OK;
+}
+
 /* Whether the set has all members of a network, that is, whether one of its blocks has, because they are the
  * fewest with their addresses. */
 static ipnetwork_fault set_covers(const Set *set, const ipnetwork_ip *asked, uint8_t *answer) {
@@ -289,11 +302,10 @@ static PyObject *set_contains_column(PyObject *module, PyObject *arguments) {
     } else if ((answers = PyByteArray_FromStringAndSize(NULL, count)) != NULL) {
         const ipnetwork_address *addresses = column.buf;
         uint8_t *room = (uint8_t *)PyByteArray_AsString(answers);
-        ipnetwork_fault fault = IPNETWORK_OK;
-        Py_ssize_t row = 0;
+        ipnetwork_fault fault;
+        Py_ssize_t row;
         Py_BEGIN_ALLOW_THREADS
-        while (row < count && (fault = set_has(&set, &addresses[row], &room[row])) == IPNETWORK_OK)
-            row++;
+        fault = set_has_rows(&set, addresses, count, room, &row);
         Py_END_ALLOW_THREADS
         if (fault == IPNETWORK_NO_FAMILY) no_such_row(row, addresses[row].length);
         if (fault == IPNETWORK_NO_FAMILY || !answered(fault)) Py_CLEAR(answers);
