@@ -1,7 +1,7 @@
 # What the parts of bindings/check on Python have in common.
 
 tests_of_python="test_build test_ipnetwork test_sets test_mapped test_asked test_builder test_prefix_table test_examples"
-tests_of_python="$tests_of_python test_interpreters test_memory test_allocations"
+tests_of_python="$tests_of_python test_messages test_interpreters test_memory test_allocations"
 # WHAT MODULE PACKAGE: whether Python has a module; if not, WHAT is skipped, and the package of Debian that has it is named.
 has() {
     if ! "$python" -c "import $2" 2> /dev/null; then

@@ -1,6 +1,7 @@
 """Makes the wheel of the package ipnetwork and of the library that it calls, for `pip install ./bindings/python`, and the
-source distribution, which has the static libraries that are proved, the sources of the one that is not, and the
-headers, so that it builds where it is unpacked.
+source distribution, which has the static libraries that are proved, the sources of the one that is not, the headers
+and the tests, so that it builds where it is unpacked, and `python build_wheel.py ipnetwork`, then `python -m unittest`,
+tests it there.
 
 It needs no other package, and so no network: only cc with its objdump, and a library. That is, in this order: the one of
 the folder that the environment variable IPNETWORK_C_LIB names; on Linux on x86-64 and ARM64 the proved one, as `rt lib`
@@ -11,9 +12,11 @@ two: scripts/arm64 makes the wheel for ARM64 by them.
 On Linux, where the headers of Python are (Debian: python3-dev), the wheel has the extension `_native`, which from Python
 3.11 on serves all later versions; else it has the library as a shared one, which the package calls by ctypes, and any
 Python may take it. The tag of the wheel, such as manylinux_2_17, says which glibc is the least that its library can be
-loaded with: 2.17 or later, since every pip knows that. On other systems the wheel has the shared library of cargo, and
-its tag says the system that Python was built for. `build_wheel.py --sdist FOLDER` writes the source distribution into a
-folder, and `build_wheel.py FOLDER` builds the extension alone, for tests.
+loaded with: 2.17 or later, since every pip knows that from 20.3 on; with another C library, or without objdump, it is
+that of this machine alone, such as linux_x86_64. On other systems the wheel has the shared library of cargo, and its tag
+says the system that Python was built for, on macOS with the architecture of this machine. `build_wheel.py --sdist
+FOLDER` writes the source distribution into a folder, and `build_wheel.py FOLDER` builds what a wheel calls, the
+extension or else the shared library, for tests.
 """
 
 import base64
@@ -23,6 +26,7 @@ import hashlib
 import io
 import os
 import pathlib
+import platform
 import re
 import shutil
 import subprocess
@@ -73,14 +77,14 @@ def version_of(version: str) -> str:
 VERSION = version_of((TOP / "VERSION").read_text().strip())
 
 
-def _metadata(library: str) -> bytes:
-    """What the package says of itself, with this sentence about its library."""
+def _metadata(library: str, least: str = "3.9") -> bytes:
+    """What the package says of itself, with this sentence about its library, for Python from this version on."""
     return f"""Metadata-Version: 2.1
 Name: {NAME}
 Version: {VERSION}
 Summary: IP networks in CIDR notation, by a library of proved sources
 License: MIT OR Apache-2.0
-Requires-Python: >=3.9
+Requires-Python: >={least}
 Description-Content-Type: text/plain
 
 {library}
@@ -183,18 +187,32 @@ def compile_native(folder: pathlib.Path) -> pathlib.Path:
     return native
 
 
+def _of_macos() -> str:
+    """The platform of the library that cargo builds on macOS: it has one architecture, even where Python has two."""
+    major, minor = (int(part) for part in f"{PLATFORM.split('-')[1]}.0".split(".")[:2])
+    machine = platform.machine()
+    if machine == "arm64":
+        major = max(major, 11)  # before, macOS was on no such machine
+    return f"macosx_{major}_{0 if major > 10 else minor}_{machine}"
+
+
 def platform_of(library: pathlib.Path) -> str:
     """The platform in the tag of a wheel: on Linux by the versions of glibc that a library of it asks for (PEP 600)."""
-    platform = re.sub(r"[-.]", "_", PLATFORM)
+    if PLATFORM.startswith("macosx"):
+        return _of_macos()
+    here = re.sub(r"[-.]", "_", PLATFORM)
     if not LINUX:
-        return platform
+        return here
     try:
-        words = [os.environ.get("OBJDUMP", "objdump"), "-T", str(library)]
-        symbols = subprocess.run(words, check=True, capture_output=True, text=True).stdout
+        words = [os.environ.get("OBJDUMP", "objdump"), "-p", str(library)]
+        needs = subprocess.run(words, check=True, capture_output=True, text=True).stdout
     except FileNotFoundError:
-        return platform
-    least = max([17, *(int(minor) for minor in re.findall(r"\bGLIBC_2\.(\d+)", symbols))])
-    return platform.replace("linux_", f"manylinux_2_{least}_", 1)
+        return here
+    if re.search(r"NEEDED +libc\.(?!so\.6)", needs):  # such as that of musl
+        return here
+    versions = needs.replace("GLIBC_ABI_DT_RELR", "GLIBC_2.36")  # which is not the version of a symbol
+    least = max([17, *(int(minor) for minor in re.findall(r"\bGLIBC_2\.(\d+)", versions))])
+    return here.replace("linux_", f"manylinux_2_{least}_", 1)
 
 
 def build_wheel(wheel_directory, config_settings=None, metadata_directory=None):
@@ -202,10 +220,10 @@ def build_wheel(wheel_directory, config_settings=None, metadata_directory=None):
     version = f"cp{sys.version_info[0]}{sys.version_info[1]}"
     with tempfile.TemporaryDirectory() as folder:
         if has_headers():
-            library = compile_native(pathlib.Path(folder))
+            library, least = compile_native(pathlib.Path(folder)), "3.11" if STABLE else "3.9"
             tag = f"{'cp311-abi3' if STABLE else version + '-' + version + 't' * THREADED}-{platform_of(library)}"
         else:
-            library = link_shared(pathlib.Path(folder))
+            library, least = link_shared(pathlib.Path(folder)), "3.9"
             tag = f"py3-none-{platform_of(library)}"
         held = library.read_bytes()
     about = f"{NAME}-{VERSION}.dist-info"
@@ -214,7 +232,7 @@ def build_wheel(wheel_directory, config_settings=None, metadata_directory=None):
         **{f"ipnetwork/{name}": (HERE / "ipnetwork" / name).read_bytes() for name in MODULES},
         f"ipnetwork/{library.name}": held,
         **{f"{about}/{name}": (TOP / name).read_bytes() for name in LICENSES},
-        f"{about}/METADATA": _metadata(_about(_library())),
+        f"{about}/METADATA": _metadata(_about(_library()), least),
         f"{about}/WHEEL": wheel.encode(),
     }
     rows = []
@@ -266,7 +284,7 @@ def build_sdist(sdist_directory, config_settings=None):
     platforms = ", ".join(f"linux-{name.split('/')[1]}" for name in proved) or "no platform"
     files = {
         "PKG-INFO": _metadata(f"It has the proved library for {platforms}. For others cargo builds one of {PLAIN}."),
-        **{name: (HERE / name).read_bytes() for name in ("pyproject.toml", "build_wheel.py")},
+        **{file.name: file.read_bytes() for file in (HERE / "pyproject.toml", *sorted(HERE.glob("*.py")))},
         **{name: (TOP / name).read_bytes() for name in ("VERSION", *LICENSES)},
         **{f"ipnetwork/{file.name}": file.read_bytes() for file in sources},
         **{f"c/{name}": (HEADERS / name).read_bytes() for name in ("ipnetwork.h", "ranges.h")},
@@ -288,4 +306,4 @@ if __name__ == "__main__":
     if sys.argv[1] == "--sdist":
         print(build_sdist(sys.argv[2]))
     else:
-        print(compile_native(pathlib.Path(sys.argv[1])))
+        print((compile_native if has_headers() else link_shared)(pathlib.Path(sys.argv[1])))

@@ -139,7 +139,7 @@ class Read(unittest.TestCase):
                 wanted = ipaddress.ip_address(text.decode()) in SET
             except ValueError:
                 wanted = False
-            self.assertEqual(list(SET.contains_column(["10.1.2.3", text])), [1, wanted])
+            self.assertEqual(list(SET.contains_column(["10.1.2.3", text], invalid=False)), [1, wanted])
 
 
 class Messages(unittest.TestCase):

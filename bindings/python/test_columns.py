@@ -1,12 +1,16 @@
 """The columns over NumPy, and over pandas if it is here, row by row against single calls and ``ipaddress``."""
 
 import ipaddress
+import math
 import random
 import unittest
 
-import numpy
+try:
+    import numpy
+except ImportError:
+    raise unittest.SkipTest("there is no NumPy here") from None
 
-from ipnetwork import AddressSet, IPv4Network, PrefixTable, Table, ip_network
+from ipnetwork import AddressError, AddressSet, IPv4Network, PrefixTable, Table, ip_network, read_address_column
 from ipnetwork.columns import find, is_member, layout, read_addresses
 
 try:
@@ -56,7 +60,7 @@ class Columns(unittest.TestCase):
 
     def test_addresses(self):
         for texts in self.columns():
-            addresses, present = read_addresses(texts)
+            addresses, present = read_addresses(texts, invalid=False)
             for row, text in enumerate(TEXTS):
                 wanted = None if "%" in text else address(text)
                 self.assertEqual(bool(present[row]), wanted is not None, text)
@@ -67,13 +71,13 @@ class Columns(unittest.TestCase):
         wanted = [address(text) is not None and address(text) in WHICH for text in TEXTS]
         self.assertIn(True, wanted)
         for texts in self.columns():
-            self.assertEqual(is_member(texts, WHICH).tolist(), wanted)
-        addresses, _ = read_addresses(TEXTS)
+            self.assertEqual(is_member(texts, WHICH, invalid=False).tolist(), wanted)
+        addresses, _ = read_addresses(TEXTS, invalid=False)
         self.assertEqual(is_member(addresses, WHICH).tolist(), wanted)
         self.assertEqual(is_member(addresses[::2], WHICH).tolist(), wanted[::2])
         network = IPv4Network("128.0.0.0/1")
         self.assertEqual(
-            is_member(TEXTS, network).tolist(), [address(text) is not None and address(text) in network for text in TEXTS]
+            is_member(TEXTS, network, invalid=False).tolist(), [address(text) is not None and address(text) in network for text in TEXTS]
         )
         self.assertEqual(is_member([], WHICH).tolist(), [])
 
@@ -84,8 +88,8 @@ class Columns(unittest.TestCase):
             each = address(text) if "%" not in text else None
             wanted.append(-1 if each is None else (each.version == 6) + 2 * (int(each) >> each.max_prefixlen - 1))
         for texts in self.columns():
-            self.assertEqual(find(texts, table).tolist(), wanted)
-        addresses, _ = read_addresses(TEXTS)
+            self.assertEqual(find(texts, table, invalid=False).tolist(), wanted)
+        addresses, _ = read_addresses(TEXTS, invalid=False)
         self.assertEqual(find(addresses[::2], table).tolist(), wanted[::2])
         self.assertEqual(find([], table).tolist(), [])
         with self.assertRaisesRegex(TypeError, "not PrefixTable: .* join"):
@@ -110,14 +114,16 @@ class Columns(unittest.TestCase):
             (ipaddress.IPv6Address("::ffff:10.1.2.3"), False),
             (ipaddress.ip_interface("10.1.2.3/8"), True),
             (ipaddress.ip_interface("2001:db8::1/16"), True),
-            (ipaddress.IPv6Address("2001:db8::1%eth0"), False),
-            (ipaddress.ip_interface("2001:db8::1%eth0/64"), False),
+            (ipaddress.IPv6Address("2001:db8::1%eth0"), True),
+            (ipaddress.ip_interface("2001:db8::1%eth0/64"), True),
+            (ipaddress.ip_network("2001:db8::1%eth0/128"), True),
+            (ipaddress.IPv6Address("2001:db9::1%eth0"), False),
             (ip_network("10.1.2.3"), True),
             (ip_network("2001:db9::1/128"), False),
             (ipaddress.ip_network("10.1.2.3"), True),
             (ipaddress.ip_network("2001:db8::1/128"), True),
             (b"10.1.2.3", True),
-            (b"\xff", False),
+            (b"10.1.2.3 and more", False),
             (numpy.str_("10.1.2.3"), True),
             (numpy.bytes_(b"2001:db8::1"), True),
             ("\udcff", False),
@@ -129,15 +135,17 @@ class Columns(unittest.TestCase):
         array[:] = objects
         for column in (objects, tuple(objects), iter(objects), array, *([pandas.Series(objects)] if pandas is not None else [])):
             column = list(column) if hasattr(column, "__next__") else column
-            self.assertEqual(is_member(column, which).tolist(), wanted)
-            self.assertEqual((find(column, table) >= 0).tolist(), wanted)
+            self.assertEqual(is_member(column, which, invalid=False).tolist(), wanted)
+            self.assertEqual((find(column, table, invalid=False) >= 0).tolist(), wanted)
             for row, each in enumerate(objects):
-                self.assertEqual(is_member(column[row : row + 1], which).tolist(), [wanted[row]], each)
-        self.assertEqual(is_member((row for row in objects), which).tolist(), wanted)
+                self.assertEqual(is_member(column[row : row + 1], which, invalid=False).tolist(), [wanted[row]], each)
+        self.assertEqual(is_member((row for row in objects), which, invalid=False).tolist(), wanted)
         self.assertEqual(is_member(numpy.array([b"10.1.2.3", b"10.2.0.0"]), which).tolist(), [True, False])
+        # As the networks of the stdlib have it.
+        theirs = ipaddress.ip_network("10.1.0.0/16"), ipaddress.ip_network("2001:db8::/32")
         for each, answer in rows:
             if isinstance(each, (ipaddress.IPv4Address, ipaddress.IPv6Address)):
-                self.assertEqual(each in which, answer)
+                self.assertEqual(any(each in network for network in theirs), answer)
 
     def test_rows_that_are_refused(self):
         which = AddressSet([ip_network("0.0.0.0/0"), ip_network("::/0")])
@@ -193,6 +201,10 @@ class Columns(unittest.TestCase):
         ):
             with self.assertRaises(TypeError):
                 is_member(column, which, numbers=numbers)
+        for wrong, numbers in (([each[0], -1], 4), ([[0, 1], [-1, 0]], 6)):
+            column = numpy.array(wrong, "i8")
+            self.assertEqual(is_member(column, which, numbers=numbers, invalid=False).tolist(), [numbers == 4, False])
+            self.assertEqual(is_member(column, which, numbers=numbers, invalid="null").tolist(), [numbers == 4, None])
         # Numbers with a sign are taken if they are those of addresses.
         for given in (numpy.array(each, "i8"), each):
             self.assertEqual(is_member(given, which, numbers=4).tolist(), [True, False, False, False])
@@ -259,6 +271,146 @@ class Columns(unittest.TestCase):
         texts = numpy.ma.masked_array(["10.1.2.3", "10.1.2.4"], [False, True])
         self.assertEqual(is_member(texts, which).tolist(), [True, False])
 
+    def questions(self, **options):
+        """Each call that takes a column with texts and answers for each row, about 10.0.0.0/8."""
+        tens = [ip_network("10.0.0.0/8")]
+        which, table, values = AddressSet(tens), Table(tens, ["lab"]), PrefixTable({tens[0]: "lab"})
+        yield lambda rows: is_member(rows, which, **options)
+        yield lambda rows: is_member(rows, tens[0], **options)
+        yield lambda rows: find(rows, table, **options)
+        yield lambda rows: table.join(rows, **options)
+        yield lambda rows: values.join(rows, **options)
+        yield lambda rows: which.contains_column(list(rows), **options)
+        yield lambda rows: table.find_column(list(rows), **options)
+
+    def test_texts_that_name_no_address(self):
+        wrong = [" 10.0.0.1", "10.0.0.1 ", "10.0.0.1:443", "010.0.0.5", "", "fe80::1%eth0", "10.0.0.0/8", "10.0.0.1\n", "\u0661.2.3.4"]
+        wrong += [b"10.0.0.1:443", b" 10.0.0.1", "10.0.0.1\0", "\udcff"]
+        for each in wrong:
+            rows = ["10.0.0.1", None, math.nan, each, "x"]
+            array = numpy.empty(len(rows), object)
+            array[:] = rows
+            for column in (rows, tuple(rows), array, *([pandas.Series(rows, index=list("abcde"))] if pandas is not None else [])):
+                for call in (*self.questions(), *self.questions(invalid="raise"), read_addresses, lambda rows: read_addresses(rows, invalid="raise")):
+                    with self.subTest(repr(each)), self.assertRaises(AddressError) as raised:
+                        call(column)
+                    self.assertIn(f"row 3: {each!r} is no address", str(raised.exception))
+                    self.assertIsInstance(raised.exception, ValueError)
+        for invalid in (True, None, 1, "", "false", "ignore", "x" * 1000):
+            for call in (*self.questions(invalid=invalid), lambda rows: read_addresses(rows, invalid=invalid)):
+                for rows in (["10.0.0.1"], [], numpy.zeros((1, 17), numpy.uint8)):
+                    with self.subTest(invalid), self.assertRaises((ValueError, TypeError)) as raised:
+                        call(rows)
+                    self.assertLess(len(str(raised.exception)), 200)
+
+    def test_texts_that_are_no_member(self):
+        rows = ["10.0.0.1", "10.0.0.1:443", None, "8.8.8.8"]
+        answers = [[True, False, False, False]] * 2 + [[0, -1, -1, -1]] + [["lab", None, None, None]] * 2
+        for column in (rows, numpy.array(rows, object)):
+            for call, answer in zip(self.questions(invalid=False), answers):
+                self.assertEqual(list(call(column)), answer)
+            contained, found = list(self.questions(invalid=False))[5:]
+            self.assertEqual(contained(rows), b"\1\0\0\0")
+            self.assertEqual(memoryview(found(rows)).cast("q").tolist(), [0, -1, -1, -1])
+
+    def test_null(self):
+        rows = ["10.0.0.1", "10.0.0.1:443", None, "8.8.8.8"]
+        answers = [[True, None, None, False]] * 2 + [[0, None, None, -1]] + [["lab", None, None, None]] * 2
+        answers += [[True, None, None, False], [0, None, None, -1]]
+        for column in (rows, numpy.array(rows, object)):
+            for call, answer in zip(self.questions(invalid="null"), answers):
+                told = call(column)
+                self.assertIsInstance(told, numpy.ma.MaskedArray)
+                self.assertEqual((told.tolist(), told.mask.tolist()), (answer, [False, True, True, False]))
+                if told.dtype != object:
+                    self.assertEqual(told.filled().tolist(), [each or 0 if told.dtype == bool else -1 if each is None else each for each in answer])
+                self.assertEqual(call([]).tolist(), [])
+        # What was read once is as the rows were.
+        addresses, _ = read_addresses(rows, invalid=False)
+        self.assertEqual(is_member(addresses, WHICH, invalid="null").mask.tolist(), [False, True, True, False])
+        self.assertEqual(Table([ip_network("10.0.0.0/8")], [(1, 2)]).join(addresses.data.cast("B"), (3, 4), invalid="null").tolist()[::3], [(1, 2), (3, 4)])
+        hidden = numpy.ma.masked_array(["10.0.0.1", "10.0.0.2"], [False, True])
+        self.assertEqual(is_member(hidden, WHICH, invalid="null").tolist(), [True, None])
+        numbers = numpy.ma.masked_array([0x0A000001, 7, 0x08080808], [False, True, False])
+        for call, answer in zip(self.questions(invalid="null", numbers=4), answers[:5]):
+            self.assertEqual(call(numbers).tolist(), [answer[0], None, answer[3]])
+
+    @unittest.skipIf(pandas is None, "pandas is not here")
+    def test_null_in_a_series(self):
+        log = pandas.Series(["10.0.0.1", "10.0.0.1:443", pandas.NA, "8.8.8.8"], index=list("wxyz"))
+        kinds = ["boolean", "boolean", "Int64", "string", "string"]
+        answers = [{"w": True, "z": False}] * 2 + [{"w": 0, "z": -1}] + [{"w": "lab"}] * 2
+        for call, kind, answer in zip(self.questions(invalid="null"), kinds, answers):
+            told = call(log)
+            self.assertEqual((str(told.dtype), told.index.tolist()), (kind, list("wxyz")))
+            self.assertEqual(told.dropna().to_dict(), answer)
+            self.assertEqual(call(log[:0]).index.tolist(), [])
+        table = Table([ip_network("10.0.0.0/8")], [7])
+        self.assertEqual(table.join(log, 0, invalid="null").to_dict(), {"w": 7, "x": pandas.NA, "y": pandas.NA, "z": 0})
+        self.assertEqual(str(table.join(log, 0, invalid="null").dtype), "Int64")
+        pair = Table([ip_network("10.0.0.0/8")], [(1, 2)]).join(log, (), invalid="null")
+        self.assertEqual(pair.dropna().to_dict(), {"w": (1, 2), "z": ()})
+
+    def test_unreadable_and_missing(self):
+        rows = ["10.0.0.1", "10.0.0.1:443", None, ""]
+        present = read_addresses(rows, invalid="null")[1]
+        self.assertEqual(present.tolist(), [True, None, False, None])
+        self.assertEqual(present.filled().tolist(), [True, False, False, False])
+        self.assertEqual(read_addresses(rows, invalid=False)[1].tolist(), [True, False, False, False])
+        present = read_addresses(numpy.array([7, -1, 0]), numbers=4, missing=0, invalid="null")[1]
+        self.assertEqual(present.tolist(), [True, None, False])
+
+    def test_packed_addresses_are_refused(self):
+        fours = [ipaddress.ip_address(text).packed for text in ("10.0.0.0", "10.1.0.0", "8.8.8.8", "48.48.48.0", "0.0.0.0", "10.48.0.0")]
+        sixes = [ipaddress.ip_address(text).packed for text in ("2001:db8::", "::1", "::", "2001:db8:1::", "3030:3030::")]
+        for packed, width in ((fours, 4), (sixes, 16)):
+            columns = [packed]
+            for kind in (f"S{width}", f"V{width}"):
+                # Each row alone, and all of them.
+                columns += [numpy.array([row], kind) for row in packed]
+                columns.append(numpy.array(packed, kind))
+                columns.append(numpy.array(packed, kind).tolist())
+            columns.append(numpy.ma.masked_array(numpy.array(packed, f"S{width}"), [True] + [False] * (len(packed) - 1)))
+            for column in columns:
+                for invalid in ("raise", False, "null"):
+                    for call in (*list(self.questions(invalid=invalid))[:5], lambda rows: read_addresses(rows, invalid=invalid)):
+                        with self.subTest((column, invalid)), self.assertRaisesRegex(TypeError, "row [01]: .* packed address"):
+                            call(column)
+        # Texts of these lengths are texts.
+        which = AddressSet([ip_network("::/0"), ip_network("0.0.0.0/0")])
+        for texts in ([b"::1", b"::"], [b"10.1.2.3", b"2001:db8::12:345"], [b"1.2.3.4", b"255.255.255.255"]):
+            self.assertEqual(is_member(numpy.array(texts), which).tolist(), [True, True])
+        self.assertEqual(is_member(numpy.array([b"10.1.2.3", b"garbage", b""]), which, invalid=False).tolist(), [True, False, False])
+
+    def test_zones(self):
+        link = AddressSet([ip_network("fe80::/10")])
+        for zoned in (ipaddress.ip_address("fe80::1%eth0"), ipaddress.ip_interface("fe80::1%eth0/64")):
+            self.assertTrue(zoned in ipaddress.ip_network("fe80::/10"))
+            self.assertEqual(is_member([zoned], link).tolist(), [True])
+            self.assertEqual(list(link.contains_column([zoned])), [1])
+            self.assertEqual(find([zoned], Table(link)).tolist(), [0])
+            self.assertEqual(PrefixTable({ip_network("fe80::/10"): "link"}).join([zoned, None]), ["link", None])
+        self.assertEqual(is_member(["fe80::1%eth0"], link, invalid=False).tolist(), [False])
+
+    def test_mapped_questions(self):
+        rows = ["::ffff:10.0.0.1", "10.0.0.1", "::1", None]
+        tens = [ip_network("10.0.0.0/8")]
+        for which in (AddressSet(tens), AddressSet(tens, mapped=True)):
+            self.assertEqual(is_member(rows, which, mapped=True).tolist(), [True, True, False, False])
+            self.assertEqual(which.mapped, is_member(rows, which).tolist()[0])
+        for table in (Table(tens), Table(tens, mapped=True)):
+            self.assertEqual(find(rows, table, mapped=True).tolist(), [0, 0, -1, -1])
+            self.assertEqual(table.mapped, find(rows, table).tolist()[0] == 0)
+
+    def test_unmapped(self):
+        packed = [10, 0, 0, 1, *bytes(12), 4]
+        self.assertEqual(read_addresses(["::ffff:10.0.0.1"], unmapped=True)[0].tolist(), [packed])
+        offsets = numpy.array([0, 15], numpy.uint32)
+        self.assertEqual(list(read_address_column(b"::ffff:10.0.0.1", offsets, unmapped=True)[0]), packed)
+        for call in (lambda: read_addresses([], mapped=True), lambda: read_address_column(b"", offsets[:1], mapped=True)):
+            with self.assertRaises(TypeError):
+                call()
+
     @unittest.skipIf(pandas is None, "pandas is not here")
     def test_joined_series(self):
         four = ip_network("10.1.0.0/16")
@@ -281,9 +433,9 @@ class Columns(unittest.TestCase):
     @unittest.skipIf(frames is None, "there is no dask here")
     def test_dask(self):
         log = frames.from_pandas(pandas.DataFrame({"address": TEXTS, "row": range(len(TEXTS))}), 3)
-        wanted = is_member(TEXTS, WHICH).tolist()
-        self.assertEqual(is_member(log.address, WHICH).tolist(), wanted)
-        asked = log.address.map_partitions(lambda part: pandas.Series(is_member(part, WHICH)), meta=("x", bool))
+        wanted = is_member(TEXTS, WHICH, invalid=False).tolist()
+        self.assertEqual(is_member(log.address, WHICH, invalid=False).tolist(), wanted)
+        asked = log.address.map_partitions(lambda part: pandas.Series(is_member(part, WHICH, invalid=False)), meta=("x", bool))
         self.assertEqual(asked.compute().tolist(), wanted)
         wrong = log.map_partitions(lambda part: pandas.Series(is_member(part, WHICH)), meta=("x", bool))
         numbers = log.row.map_partitions(lambda part: pandas.Series(is_member(part, WHICH)), meta=("x", bool))
@@ -294,7 +446,7 @@ class Columns(unittest.TestCase):
     @unittest.skipIf(pandas is None, "there is no pandas here")
     def test_frame(self):
         log = pandas.DataFrame({"address": TEXTS, "row": range(len(TEXTS))})
-        kept = log[is_member(log.address, WHICH)]
+        kept = log[is_member(log.address, WHICH, invalid=False)]
         self.assertEqual(kept.row.tolist(), [row for row, text in enumerate(TEXTS) if address(text) is not None and address(text) in WHICH])
 
 

@@ -359,11 +359,11 @@ class Mapped(unittest.TestCase):
 
     def test_columns(self):
         texts, offsets = column()
-        rows, faults = ipnetwork.read_address_column(texts, offsets, mapped=True)
+        rows, faults = ipnetwork.read_address_column(texts, offsets, unmapped=True)
         packed = [standing_for(each).packed for each in ADDRESSES]
         wanted = b"".join(each.ljust(16, b"\0") + bytes([len(each)]) for each in packed)
         self.assertEqual((rows, faults), (wanted, bytes(len(ADDRESSES))))
-        rows, faults = ipnetwork.read_address_column(b"x::ffff:1.2.3.4", array.array("I", [0, 1, 15]), mapped=True)
+        rows, faults = ipnetwork.read_address_column(b"x::ffff:1.2.3.4", array.array("I", [0, 1, 15]), unmapped=True)
         self.assertEqual((rows, faults), (bytes(17) + bytes([1, 2, 3, 4, *bytes(12), 4]), b"\2\0"))
         for wrong in (bytes(16), bytes(16) + b"\5", bytes(17) + bytes(16) + b"\x11"):
             with self.assertRaises(ValueError):
@@ -389,7 +389,7 @@ class Mapped(unittest.TestCase):
             self.assertEqual(find(given, Table(DENIED, mapped=True)).tolist(), found)
         self.assertEqual(is_member(pairs, plain, numbers=6, mapped=True).tolist(), wanted[:10])
         self.assertEqual(is_member(TEXTS, DENIED[0], mapped=True).tolist()[:3], [True, True, False])
-        self.assertEqual(read_addresses(TEXTS, mapped=True)[0][0].tolist(), [10, 1, 2, 3, *bytes(12), 4])
+        self.assertEqual(read_addresses(TEXTS, unmapped=True)[0][0].tolist(), [10, 1, 2, 3, *bytes(12), 4])
         self.assertTrue(present.all())
 
 

@@ -36,7 +36,7 @@ MANY_ROUTES = Table(MANY, range(len(MANY)))
 LEAST = 4000  # an object that is lost in each of 500 calls takes at least 8000 bytes
 ROUTES, CHANGED = PrefixTable(zip(NETWORKS, "abc")), PrefixTable(zip(NETWORKS, "abc"))
 JOINED, WIDE = Table(NETWORKS, "abc"), array.array("Q", OFFSETS)
-TEXT_ROWS = ["10.1.2.3", None, "x", IPv6Address("::1")]
+TEXT_ROWS = ["10.1.2.3", None, b"8.8.8.8", IPv6Address("::1")]
 LAID = [["10.1.2.3", b"::1", None, float("nan")], ["10.1.2.3", "\udcff"], ["10.1.2.3", 7]]
 
 
@@ -103,6 +103,7 @@ CALLS = {
     "addresses": lambda: [ipnetwork.read_address(text) for text in ("10.1.2.3", "2001:db8::1")],
     "alone": lambda: [each in NETWORKS[0] for each in ALONE],
     "unmapped": lambda: (list(map(ipnetwork.unmapped, ASKED[:3])), ipnetwork._core.unmapped_rows(ROWS)),
+    "joined, not refused": lambda: JOINED.join(["x" * 100, None, "\udcff"], invalid=False),
     "laid": lambda: [ipnetwork._core.layout(rows, None) for rows in LAID],
     "ipaddress": lambda: IPv4Network.from_ipaddress(NETWORKS[2].to_ipaddress()),
     "pickled": lambda: pickle.loads(pickle.dumps(NETWORKS)),
@@ -143,6 +144,7 @@ REFUSED = {
     "no key for an address": lambda: ROUTES[IPv4Address("8.8.8.8")],
     "asked of a prefix table": lambda: ROUTES.longest("10.0.0.1"),
     "joined": lambda: JOINED.join([7]),
+    "no address joined": lambda: JOINED.join(["x" * 100, None]),
     "rows joined": lambda: ROUTES.join(bytes(16) + b"\5"),
     "printed": lambda: IPv4Network.print_column(bytes(4) + b"\x63"),
 }

@@ -113,7 +113,7 @@ class Mapping(unittest.TestCase):
         table = PrefixTable([(ip_network("::/0"), "six"), (ip_network("0.0.0.0/0"), "four")])
         for asked, wanted in (("::1", "six"), ("::ffff:1.2.3.4", "six"), ("1.2.3.4", "four")):
             self.assertEqual(table[ipaddress.ip_address(asked)], wanted)
-        self.assertEqual(table.join(["::1", "1.2.3.4", "x", None]), ["six", "four", None, None])
+        self.assertEqual(table.join(["::1", "1.2.3.4", "x", None], invalid=False), ["six", "four", None, None])
         del table[ip_network("0.0.0.0/0")]
         self.assertEqual(table.join(["::1", "1.2.3.4"], "none"), ["six", "none"])
 
@@ -307,7 +307,7 @@ class Mapping(unittest.TestCase):
 
 class Joined(unittest.TestCase):
     TABLE = [ip_network(text) for text in ("10.0.0.0/8", "2001:db8::/32", "10.1.0.0/16")]
-    ROWS = ["10.1.2.3", "8.8.8.8", None, "no address", IPv6Address("2001:db8::1"), b"10.2.0.0"]
+    ROWS = ["10.1.2.3", "8.8.8.8", None, float("nan"), IPv6Address("2001:db8::1"), b"10.2.0.0"]
 
     def test_values_of_a_table(self):
         table = Table(self.TABLE, iter("abc"))

@@ -1,16 +1,24 @@
 """Columns whose offsets have 64 bits, beside those of 32 bits; and which numbers offsets are."""
 
 import array
+import faulthandler
 import mmap
+import os
 import random
+import subprocess
+import sys
+import threading
+import time
 import unittest
 from ipaddress import IPv4Address, IPv6Address
 
 import ipnetwork
 from ipnetwork import (
+    AddressSet,
     IPv4Network,
     IPv6Network,
     PrefixError,
+    Table,
     print_address_column,
     read_address_column,
 )
@@ -33,6 +41,12 @@ ROWS = [
 ]
 
 
+#: How long each call is made while another thread writes to its buffers.
+SECONDS = 0.3
+#: The memory that is free: a text of 2 GiB is copied.
+FREE = os.sysconf("SC_AVPHYS_PAGES") * os.sysconf("SC_PAGE_SIZE") if hasattr(os, "sysconf") else 0
+
+
 def texts_of(rng, count):
     for _ in range(count):
         four, six = IPv4Address(rng.getrandbits(32)), IPv6Address(rng.getrandbits(128))
@@ -49,7 +63,61 @@ def laid(texts, kind):
     return "".join(texts).encode(), offsets
 
 
+def written_meanwhile(call, buffer, states):
+    """Calls again and again, while another thread writes each of these states to the buffer in
+    turn; what a call raises must be a ValueError."""
+    end, view = time.monotonic() + SECONDS, memoryview(buffer).cast("B")
+
+    def write():
+        while time.monotonic() < end:
+            for state in states:
+                view[:] = state
+
+    writer = threading.Thread(target=write)
+    writer.start()
+    while time.monotonic() < end:
+        try:
+            call()
+        except ValueError:
+            pass
+    writer.join()
+
+
+def all_written_meanwhile():
+    """The calls that read, print and search columns, by offsets and rows that turn from right to
+    wrong."""
+    count = 200_000
+    texts = bytearray(b"10.1.2.3" * count)
+    other = b"::/1/200" * count
+    for kind in "IQ":
+        offsets = array.array(kind, range(0, 8 * count + 1, 8))
+        states = offsets.tobytes(), b"\x7f" * (len(offsets) * offsets.itemsize)
+        for read, _ in CALLS:
+            written_meanwhile(lambda: read(texts, offsets), offsets, states)
+    for read, _ in CALLS:
+        written_meanwhile(lambda: read(texts, offsets), texts, (bytes(texts), other))
+    for (_, printed), size, right, wrong in zip(CALLS, (17, 5, 17), (16, 32, 128), (4, 255, 255)):
+        rows = bytearray((b"\xfe" * (size - 1) + bytes([right])) * count)
+        states = bytes(rows), (b"\1" * (size - 1) + bytes([wrong])) * count
+        for bits in (32, 64):
+            written_meanwhile(lambda: printed(rows, bits), rows, states)
+    networks = [IPv4Network.of(IPv4Address(number << 12), 20) for number in range(0, 2**20, 16)]
+    networks += [IPv6Network.of(IPv6Address(number << 108), 20) for number in range(0, 2**20, 16)]
+    which, table = AddressSet(networks), Table(networks)
+    rows = bytearray((b"\xfe" * 16 + b"\4") * count)
+    states = bytes(rows), (b"\0\xff" * 8 + b"\x10") * count, b"\5" * len(rows)
+    for call in (which.contains_column, table.find_column):
+        written_meanwhile(lambda: call(rows), rows, states)
+
+
 class Wide(unittest.TestCase):
+    def test_buffers_that_another_thread_writes(self):
+        # In a process of its own, which a wrong read would end.
+        ran = subprocess.run(
+            [sys.executable, os.path.abspath(__file__), "written"], capture_output=True, text=True
+        )
+        self.assertEqual((ran.returncode, ran.stderr), (0, ""))
+
     def test_read(self):
         rng = random.Random(62)
         for count in (0, 1, 2, 300, 65535, 65536, 65537):
@@ -130,7 +198,8 @@ class Wide(unittest.TestCase):
             read_address_column(whole, numpy.repeat(offsets, 2)[::2])
 
     @unittest.skipUnless(hasattr(mmap, "MAP_ANONYMOUS"), "there is no memory of zeros here")
-    @unittest.skipIf(ipnetwork.CORE == "ctypes", "it copies the texts")
+    @unittest.skipIf(FREE < 2**33, "there are no 8 GiB of memory free, for copies of a text")
+    @unittest.skipIf(ipnetwork.CORE == "ctypes", "it makes several copies of the texts")
     def test_a_text_past_offsets_of_32_bits(self):
         # A text of more than 2 GiB of zeros, which take no memory, and others around it.
         long = 2**31 + 5
@@ -147,4 +216,8 @@ class Wide(unittest.TestCase):
 
 
 if __name__ == "__main__":
-    unittest.main()
+    if sys.argv[1:] == ["written"]:
+        faulthandler.enable()
+        all_written_meanwhile()
+    else:
+        unittest.main()

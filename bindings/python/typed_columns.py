@@ -5,9 +5,10 @@ Each line with "type: ignore" is one that the hints are to refuse.
 
 from collections.abc import Iterator
 from ipaddress import IPv4Address, ip_interface
-from typing import Union
+from typing import Any, Union
 
 import numpy
+from numpy.typing import NDArray
 
 from ipnetwork import AddressSet, IPv4Network, Table, ip_network
 from ipnetwork.columns import find, is_member, layout, read_addresses
@@ -37,17 +38,27 @@ which.contains_column(texts)
 which.contains_column(tuple(rows))
 table.find_column(rows)
 table.find_column(bytes(17))
+told: NDArray[numpy.bool_] = is_member(rows, which, invalid=False)
+found: NDArray[numpy.int64] = find(rows, table, invalid="raise")
+masked: numpy.ma.MaskedArray[Any, Any] = is_member(rows, which, invalid="null")
+table.find_column(rows, invalid=False)
+which.contains_column(rows, invalid="null")
+table.join(rows, invalid="null")
 layout(texts)
 read_addresses(rows)
+read_addresses(rows, invalid="null", unmapped=True)
 
-is_member("10.1.2.3", which)  # type: ignore[arg-type]
-is_member(b"10.1.2.3", which)  # type: ignore[arg-type]
+is_member("10.1.2.3", which)  # type: ignore[call-overload]
+is_member(b"10.1.2.3", which)  # type: ignore[call-overload]
 is_member([object()], which)  # type: ignore[list-item]
 is_member([["10.1.2.3"]], which)  # type: ignore[list-item]
-is_member(texts, texts)  # type: ignore[arg-type]
-is_member(texts, which, numbers=32)  # type: ignore[arg-type]
-which.contains_column("10.1.2.3")  # type: ignore[arg-type]
+is_member(texts, texts)  # type: ignore[call-overload]
+is_member(texts, which, numbers=32)  # type: ignore[call-overload]
+which.contains_column("10.1.2.3")  # type: ignore[call-overload]
 table.find_column([object()])  # type: ignore[list-item]
-find("10.1.2.3", table)  # type: ignore[arg-type]
+find("10.1.2.3", table)  # type: ignore[call-overload]
 layout("10.1.2.3")  # type: ignore[arg-type]
 read_addresses("10.1.2.3")  # type: ignore[arg-type]
+is_member(texts, which, invalid=True)  # type: ignore[call-overload]
+read_addresses(texts, invalid="nul")  # type: ignore[arg-type]
+read_addresses(texts, mapped=True)  # type: ignore[call-arg]

@@ -45,8 +45,8 @@ def made_up_list() -> AddressSet:
 
 
 def kept(part: pandas.DataFrame, allowed: AddressSet) -> pandas.DataFrame:
-    """The lines of a part whose address is of the list. A worker runs this."""
-    return part[is_member(part.address, allowed)]
+    """The lines of a part whose address is of the list; a text that is no address is of no list. A worker runs this."""
+    return part[is_member(part.address, allowed, invalid=False)]
 
 
 def by_workers(client: Client, log: pandas.DataFrame, allowed: AddressSet) -> pandas.DataFrame:

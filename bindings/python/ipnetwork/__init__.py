@@ -117,12 +117,13 @@ for _public in (AddressSet, AddressSetBuilder, IPv4Network, IPv6Network, PrefixT
 
 
 def read_address_column(
-    texts: ReadableBuffer, offsets: ReadableBuffer, *, mapped: bool = False
+    texts: ReadableBuffer, offsets: ReadableBuffer, *, unmapped: bool = False
 ) -> tuple[bytearray, bytearray]:
     """The addresses of either family that a column of texts in Arrow's layout names, as in
     ``IPv4Network.read_column``, and for each text a byte that is 0 if it names one. Each address is
     17 bytes: its octets, followed by zeros for an IPv4 address, and their number, 4 or 16, or 0 if
-    there is no address. With ``mapped``, an IPv4-mapped address is read as the IPv4 address.
+    there is no address. With ``unmapped``, each IPv4-mapped address is replaced by the IPv4
+    address, so that nothing tells of the IPv6 one: a set or a table with ``mapped`` knows both.
 
     >>> import array
     >>> offsets = array.array("I", [0, 7, 10, 11])
@@ -131,7 +132,7 @@ def read_address_column(
     ([4, 16, 0], [0, 0, 2])
     """
     addresses, faults = _core.read_rows(0, texts, offsets)
-    return (_core.unmapped_rows(addresses) if mapped else addresses), faults
+    return (_core.unmapped_rows(addresses) if unmapped else addresses), faults
 
 
 def print_address_column(

@@ -230,42 +230,56 @@ class _OtherRow(Exception):
     """A row that ``layout`` does not accept."""
 
 
-def _no_text(row: object, missing: object) -> bytes:
-    if row is None or row is missing or (isinstance(row, float) and row != row):
-        return b""
-    raise _OtherRow
+def _no_text(row: object, missing: object) -> None:
+    if not (row is None or row is missing or (isinstance(row, float) and row != row)):
+        raise _OtherRow
 
 
-def _bytes_of(row: object, missing: object) -> bytes:
+def _may_be_packed(row: bytes) -> bool:
+    """Whether bytes may be a packed address, of which NumPy drops the zeros at the end: they are
+    not the text of an address, and have its length of 4 or 16, or are shorter and not printable
+    ASCII."""
+    if len(row) > 16 or (len(row) not in (4, 16) and row.isascii() and row.decode().isprintable()):
+        return False
+    held = (ctypes.c_ubyte * ADDRESS)()
+    return library.ipnetwork_address_read(row, len(row), ctypes.byref(held)) != 0
+
+
+def _bytes_of(row: object, missing: object) -> Union[bytes, None]:
     if isinstance(row, str):
         return row.encode("utf-8")
     if not isinstance(row, bytes):
         return _no_text(row, missing)
-    if len(row) in (4, 16):  # as a packed address: taken as a text only if it is that of an address
-        held = (ctypes.c_ubyte * ADDRESS)()
-        if library.ipnetwork_address_read(row, len(row), ctypes.byref(held)):
-            raise _OtherRow
+    if _may_be_packed(row):
+        raise _OtherRow
     return row
 
 
-def layout(rows: list[object], missing: object) -> Union[tuple[bytearray, bytearray], None]:
-    """The rows of a list in Arrow's layout: the bytes and the offsets. None if a row is neither
-    str, bytes, None, NaN nor ``missing``, or is a str that cannot be encoded in UTF-8."""
+def layout(
+    rows: list[object], missing: object
+) -> Union[tuple[bytes, bytearray, bytearray], None]:
+    """The rows of a list in Arrow's layout: the bytes and the offsets; and for each row a byte: the
+    fault of a text without an address if it has no text, else 0. None if a row is neither str,
+    bytes, None, NaN nor ``missing``, or is bytes that may be a packed address, or a str that cannot
+    be encoded in UTF-8."""
     try:
-        each = [_bytes_of(row, missing) for row in rows]
+        texts = [_bytes_of(row, missing) for row in rows]
     except (UnicodeEncodeError, _OtherRow):
         return None
+    each = [text or b"" for text in texts]
     if sum(map(len, each)) > 0x7FFFFFFF:
         raise ValueError(
             "the texts have more than 2147483647 bytes, which is past the offsets: give them in "
             "parts"
         )
     offsets = array.array("I", itertools.accumulate(map(len, each), initial=0))
-    return bytearray(b"".join(each)), bytearray(offsets.tobytes())
+    faults = bytearray(2 * (text is None) for text in texts)
+    return b"".join(each), bytearray(offsets.tobytes()), faults
 
 
 def _offsets_of(given: ReadableBuffer) -> memoryview:
-    """Offsets as numbers of 32 or 64 bits."""
+    """A copy of offsets, as numbers of 32 or 64 bits: what is checked is what is used, whatever
+    another thread writes meanwhile."""
     view = memoryview(given)
     if view.itemsize not in (4, 8):
         raise ValueError(f"offsets are numbers of 32 or of 64 bits, not of {view.itemsize * 8}")
@@ -274,11 +288,10 @@ def _offsets_of(given: ReadableBuffer) -> memoryview:
     if len(kind) != 1 or kind not in "iIlLqQnN":
         raise TypeError(
             "offsets are whole numbers in the order of the machine, not of the format "
-            f"{view.format}"
+            f"{view.format:.60}"
         )
-    if not view.nbytes:
-        return memoryview(b"").cast("I")
-    return view.cast("B").cast("I" if view.itemsize == 4 else "Q")
+    copied = bytes(view.cast("B")) if view.nbytes else b""
+    return memoryview(copied).cast("I" if view.itemsize == 4 else "Q")
 
 
 def _parts(offsets: memoryview) -> Iterator[tuple[int, int]]:

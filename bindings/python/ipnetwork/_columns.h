@@ -243,6 +243,19 @@ static inline ipnetwork_fault set_has(const Set *set, const ipnetwork_address *a
     return list_contains(&set->sixes, address->octets, answer);
 }
 
+/* The answer for each row, up to the first that is no address; the rows are copied, a part at a time. */
+static ipnetwork_fault set_has_rows(const Set *set, const ipnetwork_address *addresses, Py_ssize_t count,
+                                    uint8_t *answers, Py_ssize_t *row) {
+    ipnetwork_address part[PART];
+    for (*row = 0; *row < count; ++*row) {
+        Py_ssize_t at = *row % PART, rest = count - *row;
+        if (at == 0) memcpy(part, addresses + *row, (size_t)(rest < PART ? rest : PART) * sizeof *part);
+        ipnetwork_fault fault = set_has(set, &part[at], &answers[*row]);
+        if (fault != IPNETWORK_OK) return fault;
+    }
+    return IPNETWORK_OK;
+}
+
 /* Whether the set has all members of a network, that is, whether one of its blocks has, because they are the
  * fewest with their addresses. */
 static ipnetwork_fault set_covers(const Set *set, const ipnetwork_ip *asked, uint8_t *answer) {
@@ -290,11 +303,10 @@ static PyObject *set_contains_column(PyObject *module, PyObject *arguments) {
     } else if ((answers = PyByteArray_FromStringAndSize(NULL, count)) != NULL) {
         const ipnetwork_address *addresses = column.buf;
         uint8_t *room = (uint8_t *)PyByteArray_AsString(answers);
-        ipnetwork_fault fault = IPNETWORK_OK;
-        Py_ssize_t row = 0;
+        ipnetwork_fault fault;
+        Py_ssize_t row;
         Py_BEGIN_ALLOW_THREADS
-        while (row < count && (fault = set_has(&set, &addresses[row], &room[row])) == IPNETWORK_OK)
-            row++;
+        fault = set_has_rows(&set, addresses, count, room, &row);
         Py_END_ALLOW_THREADS
         if (fault == IPNETWORK_NO_FAMILY) no_such_row(row, addresses[row].length);
         if (fault == IPNETWORK_NO_FAMILY || !answered(fault)) Py_CLEAR(answers);
@@ -318,13 +330,12 @@ static PyObject *unmapped(PyObject *module, PyObject *given) {
     return again(given);
 }
 
-/* Writes the addresses of a column unmapped; 0 at the first row that is neither an address nor without
- * one. */
-static int unmap_rows(const ipnetwork_address *addresses, size_t count, ipnetwork_address *rows, size_t *row) {
+/* Replaces the addresses of a column by themselves unmapped; 0 at the first row that is neither an address nor
+ * without one. */
+static int unmap_rows(ipnetwork_address *rows, size_t count, size_t *row) {
     for (*row = 0; *row < count; ++*row) {
-        rows[*row] = addresses[*row];
-        if (addresses[*row].length != 0
-            && ipnetwork_address_unmapped(&addresses[*row], &rows[*row]) != IPNETWORK_OK)
+        ipnetwork_address address = rows[*row];
+        if (address.length != 0 && ipnetwork_address_unmapped(&address, &rows[*row]) != IPNETWORK_OK)
             return 0;
     }
     return 1;
@@ -339,15 +350,14 @@ static PyObject *unmapped_rows(PyObject *module, PyObject *given) {
     size_t count = (size_t)column.len / sizeof(ipnetwork_address), row;
     if ((size_t)column.len % sizeof(ipnetwork_address) != 0) {
         PyErr_Format(PyExc_ValueError, "%zd bytes are no column of addresses of 17 bytes", column.len);
-    } else if ((rows = PyByteArray_FromStringAndSize(NULL, column.len)) != NULL) {
-        const ipnetwork_address *addresses = column.buf;
+    } else if ((rows = PyByteArray_FromStringAndSize(column.buf, column.len)) != NULL) {
         ipnetwork_address *room = (ipnetwork_address *)PyByteArray_AsString(rows);
         int all;
         Py_BEGIN_ALLOW_THREADS
-        all = unmap_rows(addresses, count, room, &row);
+        all = unmap_rows(room, count, &row);
         Py_END_ALLOW_THREADS
         if (!all) {
-            no_such_row((Py_ssize_t)row, addresses[row].length);
+            no_such_row((Py_ssize_t)row, room[row].length);
             Py_CLEAR(rows);
         }
     }

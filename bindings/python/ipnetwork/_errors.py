@@ -39,7 +39,19 @@ _FAULTS: dict[int, tuple[type[NetworkError], str]] = {
 }
 
 
+def shown(given: object) -> str:
+    """What a message shows of an object: of a text or of bytes at most 60 bytes, and of any other
+    object at most 60 bytes of its ``repr``."""
+    if isinstance(given, (bytes, bytearray)):
+        return repr(given[:60]) + "..." * (len(given) > 60)
+    text = str(given) if isinstance(given, str) else repr(given)
+    front = text[:60]
+    while len(front.encode("utf-8", "surrogatepass")) > 60:
+        front = front[:-1]
+    return (repr(front) if isinstance(given, str) else front) + "..." * (front != text)
+
+
 def error(fault: int, given: object) -> NetworkError:
     """The error for a fault of the library, with the object that was given to it."""
     kind, words = _FAULTS[fault]
-    return kind(f"{words}: {given!r}")
+    return kind(f"{words}: {shown(given)}")

@@ -2,14 +2,14 @@
 
 from __future__ import annotations
 
-from typing import TYPE_CHECKING, Any, Generic, TypeVar, Union, overload
+from typing import TYPE_CHECKING, Any, Generic, Literal, TypeVar, Union, overload
 
-from ._rows import addresses_of, like
+from ._rows import addresses_of, like, nulled
 
 if TYPE_CHECKING:
     from _typeshed import ReadableBuffer
 
-    from ._rows import Given, Missing, Numbers, Series
+    from ._rows import Given, Invalid, Missing, Numbers, Series
 
 Value = TypeVar("Value")
 _Default = TypeVar("_Default")
@@ -32,12 +32,18 @@ class Joins(Generic[Value]):
         *,
         numbers: Numbers = ...,
         missing: Missing = ...,
+        invalid: Invalid = ...,
     ) -> Series:
         ...
 
     @overload
     def join(
-        self, column: Given, *, numbers: Numbers = ..., missing: Missing = ...
+        self,
+        column: Given,
+        *,
+        numbers: Numbers = ...,
+        missing: Missing = ...,
+        invalid: Literal["raise", False] = ...,
     ) -> list[Union[Value, None]]:
         ...
 
@@ -49,7 +55,20 @@ class Joins(Generic[Value]):
         *,
         numbers: Numbers = ...,
         missing: Missing = ...,
+        invalid: Literal["raise", False] = ...,
     ) -> list[Union[Value, _Default]]:
+        ...
+
+    @overload
+    def join(
+        self,
+        column: Given,
+        default: object = ...,
+        *,
+        numbers: Numbers = ...,
+        missing: Missing = ...,
+        invalid: Literal["null"],
+    ) -> Any:
         ...
 
     def join(
@@ -59,6 +78,7 @@ class Joins(Generic[Value]):
         *,
         numbers: Numbers = None,
         missing: Missing = None,
+        invalid: Invalid = "raise",
     ) -> Any:
         """For each row of a column the value of the longest network that has its address, or the
         default if no network has it or the row has no address. The result is a list, or for a
@@ -66,8 +86,20 @@ class Joins(Generic[Value]):
         rows; with ``numbers``, one of numbers, as for ``ipnetwork.columns``; or the bytes that
         ``read_address_column`` returns. ValueError for a ``Table`` that was made without values.
 
+        AddressError for a row whose text names no address, unless ``invalid`` is False, and then
+        the row has none, or "null": then the result is null for each row without an address, as a
+        masked array of NumPy, or for a Series as one of the nullable types of pandas.
+
         >>> table = PrefixTable({ip_network("10.0.0.0/8"): "lab", ip_network("::/0"): "office"})
-        >>> table.join(["10.1.2.3", "8.8.8.8", "no address", "2001:db8::1"])
+        >>> table.join(["10.1.2.3", "8.8.8.8", None, "2001:db8::1"])
         ['lab', None, None, 'office']
+        >>> table.join(["10.1.2.3", "10.1.2.3:443"])  # doctest: +ELLIPSIS
+        Traceback (most recent call last):
+        ...
+        ipnetwork.AddressError: row 1: '10.1.2.3:443' is no address; ...
         """
-        return like(column, self._joined(addresses_of(column, numbers, missing), default))
+        addresses = addresses_of(column, numbers, missing, invalid)
+        values = self._joined(addresses, default)
+        if invalid == "null":
+            return nulled(column, addresses, values)
+        return like(column, values)

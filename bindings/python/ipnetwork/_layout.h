@@ -4,26 +4,41 @@
 
 #include "_addresses.h"
 
-/* Whether bytes have the length of a packed address and are not the text of one: then they are not taken as a
- * text. */
-static int may_be_packed(const char *bytes, Py_ssize_t length) {
-    ipnetwork_address address;
-    return (length == 4 || length == 16) && ipnetwork_address_read(bytes, (size_t)length, &address) != IPNETWORK_OK;
+/* Whether each of eight bytes is printable ASCII: the first to carry into its highest bit is one that is not. */
+static int is_printable(uint64_t eight) {
+    const uint64_t ones = UINT64_C(0x0101010101010101);
+    return ((eight | (eight - ones * ' ') | (eight + ones)) & ones * 0x80) == 0;
 }
 
-/* The bytes of a row that is not a str: those of bytes, and none for None, NaN and the value for a missing
- * row; NULL for any other. */
-static const char *other_bytes(PyObject *row, PyObject *missing, Py_ssize_t *length) {
+/* Whether bytes may be a packed address, of which NumPy drops the zeros at the end: they are not the text of an
+ * address, and have its length of 4 or 16, or are shorter and not printable ASCII. */
+static int may_be_packed(const char *bytes, Py_ssize_t length) {
+    ipnetwork_address address;
+    char padded[17] = "                ";
+    uint64_t halves[2];
+    if (length > 16) return 0;
+    memcpy(padded, bytes, (size_t)length);
+    memcpy(halves, padded, sizeof halves);
+    return (length == 4 || length == 16 || !is_printable(halves[0]) || !is_printable(halves[1]))
+           && ipnetwork_address_read(bytes, (size_t)length, &address) != IPNETWORK_OK;
+}
+
+/* The bytes of a row without a text. */
+static const char NO_TEXT[] = "";
+
+/* The bytes of a row that is not a str: those of bytes, and NO_TEXT for None, NaN and the value for a missing
+ * row; NULL for any other, and for bytes that may be a packed address if that is asked. */
+static const char *other_bytes(PyObject *row, PyObject *missing, int asked, Py_ssize_t *length) {
     char *bytes;
     *length = 0;
-    if (row == Py_None || row == missing) return "";
+    if (row == Py_None || row == missing) return NO_TEXT;
     if (PyBytes_Check(row)) {
         if (PyBytes_AsStringAndSize(row, &bytes, length) < 0) return NULL;
-        return may_be_packed(bytes, *length) ? NULL : bytes;
+        return asked && may_be_packed(bytes, *length) ? NULL : bytes;
     }
     if (!PyFloat_Check(row)) return NULL;
     double number = PyFloat_AsDouble(row);
-    return number != number ? "" : NULL;
+    return number != number ? NO_TEXT : NULL;
 }
 
 /* Clears the exception for a str that cannot be encoded in UTF-8, because such a row is not refused. */
@@ -34,15 +49,15 @@ static const char *no_utf_8(void) {
 
 /* The bytes of a row, for a str in UTF-8; NULL if it cannot be encoded, or is neither a str nor what
  * `other_bytes` takes, with an exception only if memory runs out. */
-static inline const char *row_bytes(PyObject *row, PyObject *missing, Py_ssize_t *length) {
-    if (!PyUnicode_Check(row)) return other_bytes(row, missing, length);
+static inline const char *row_bytes(PyObject *row, PyObject *missing, int asked, Py_ssize_t *length) {
+    if (!PyUnicode_Check(row)) return other_bytes(row, missing, asked, length);
     const char *text = PyUnicode_AsUTF8AndSize(row, length);
     return text != NULL ? text : no_utf_8();
 }
 
 /* The offsets of the rows of a list, and the total length of the rows in bytes; NULL if `row_bytes` does not
- * take a row. */
-static PyObject *row_offsets(PyObject *rows, PyObject *missing, size_t *whole) {
+ * take a row. The fault of a row without a text is written to *faults, and 0 for the others. */
+static PyObject *row_offsets(PyObject *rows, PyObject *missing, size_t *whole, char *faults) {
     Py_ssize_t count = PyList_Size(rows), length;
     Py_ssize_t size = (count + 1) * (Py_ssize_t)sizeof(uint32_t);
     PyObject *offsets = PyByteArray_FromStringAndSize(NULL, size);
@@ -58,48 +73,52 @@ static PyObject *row_offsets(PyObject *rows, PyObject *missing, size_t *whole) {
         }
         memcpy(offset + (size_t)row * sizeof start, &start, sizeof start);
         if (row == count) break;
-        if (row_bytes(PyList_GetItem(rows, row), missing, &length) == NULL)
-            return Py_DECREF(offsets), NULL;
+        const char *bytes = row_bytes(PyList_GetItem(rows, row), missing, 1, &length);
+        if (bytes == NULL) return Py_DECREF(offsets), NULL;
+        faults[row] = bytes == NO_TEXT ? IPNETWORK_ADDRESS : IPNETWORK_OK;
         end += (size_t)length;
     }
     *whole = end;
     return offsets;
 }
 
-/* The bytes of the rows and their offsets; None if `row_bytes` does not take a row. */
+/* The bytes of the rows, their offsets, and the faults; None if `row_bytes` does not take a row. */
 static PyObject *laid_out(PyObject *rows, PyObject *missing) {
     size_t whole;
     Py_ssize_t count = PyList_Size(rows), length;
-    PyObject *offsets = row_offsets(rows, missing, &whole), *both = NULL;
-    if (offsets == NULL) return PyErr_Occurred() ? NULL : again(Py_None);
-    PyObject *texts = PyByteArray_FromStringAndSize(NULL, (Py_ssize_t)whole);
+    PyObject *faults = PyByteArray_FromStringAndSize(NULL, count), *all = NULL;
+    if (faults == NULL) return NULL;
+    PyObject *offsets = row_offsets(rows, missing, &whole, PyByteArray_AsString(faults));
+    if (offsets == NULL) return Py_DECREF(faults), PyErr_Occurred() ? NULL : again(Py_None);
+    PyObject *texts = PyBytes_FromStringAndSize(NULL, (Py_ssize_t)whole);
     if (texts != NULL) {
-        char *text = PyByteArray_AsString(texts);
+        char *text = PyBytes_AsString(texts);
         for (Py_ssize_t row = 0; row < count; row++) {
-            const char *bytes = row_bytes(PyList_GetItem(rows, row), missing, &length);
+            const char *bytes = row_bytes(PyList_GetItem(rows, row), missing, 0, &length);
             memcpy(text, bytes, (size_t)length);
             text += length;
         }
-        both = PyTuple_Pack(2, texts, offsets);
+        all = PyTuple_Pack(3, texts, offsets, faults);
     }
-    Py_XDECREF(texts), Py_DECREF(offsets);
-    return both;
+    Py_XDECREF(texts), Py_DECREF(offsets), Py_DECREF(faults);
+    return all;
 }
 
-/* layout(rows, missing): the rows of a list in Arrow's layout, the bytes and the offsets; None if a row is
- * neither str, bytes, None, NaN nor `missing`, or is a str that cannot be encoded in UTF-8. */
+/* layout(rows, missing): the rows of a list in Arrow's layout, the bytes and the offsets, and for each row a byte: the
+ * fault of a text without an address if it has no text, else 0. None if a row is neither str, bytes, None, NaN nor
+ * `missing`, or is bytes that may be a packed address, or a str that cannot be encoded in UTF-8. */
 static PyObject *layout(PyObject *module, PyObject *arguments) {
     (void)module;
-    PyObject *rows, *missing, *both;
+    PyObject *rows, *missing, *all;
     if (!PyArg_ParseTuple(arguments, "O!O", &PyList_Type, &rows, &missing)) return NULL;
 #ifdef Py_GIL_DISABLED
     Py_BEGIN_CRITICAL_SECTION(rows);
-    both = laid_out(rows, missing);
+    all = laid_out(rows, missing);
     Py_END_CRITICAL_SECTION();
 #else
-    both = laid_out(rows, missing);
+    all = laid_out(rows, missing);
 #endif
-    return both;
+    return all;
 }
 
 #endif

@@ -166,7 +166,8 @@ static PyMethodDef calls[] = {
                "The texts of such a column, and their offsets, of 32 or 64 bits.")},
     {"layout", layout, METH_VARARGS,
      OF_MODULE("layout", "rows, missing",
-               "The rows of a list in Arrow's layout; None if one is neither a text nor missing.")},
+               "The rows of a list in Arrow's layout, and a byte that is not 0 for each without a text;\n"
+               "None if one is neither a text nor missing.")},
     {"aggregate", aggregate, METH_VARARGS,
      OF_MODULE("aggregate", "version, rows",
                "The fewest blocks that have the addresses of these networks.")},

@@ -11,7 +11,7 @@ from operator import attrgetter, index
 from typing import TYPE_CHECKING, Any, ClassVar, Generic, SupportsIndex, TypeVar, Union, overload
 
 from ._chosen import core
-from ._errors import NetworkError, error
+from ._errors import NetworkError, error, shown
 
 if TYPE_CHECKING:
     from _typeshed import ReadableBuffer
@@ -251,7 +251,7 @@ class IPv4Network(_Network[IPv4Address], core.V4):
             return cls.of(given.ip, given.network.prefixlen)
         if isinstance(given, TheirV4):
             return cls.of(given.network_address, given.prefixlen)
-        raise TypeError(f"{given!r} is no IPv4 network or interface of ipaddress")
+        raise TypeError(f"{shown(given)} is no IPv4 network or interface of ipaddress")
 
 
 class IPv6Network(_Network[IPv6Address], core.V6):
@@ -285,7 +285,7 @@ class IPv6Network(_Network[IPv6Address], core.V6):
             return cls.of(given.ip, given.network.prefixlen)
         if isinstance(given, TheirV6):
             return cls.of(given.network_address, given.prefixlen)
-        raise TypeError(f"{given!r} is no IPv6 network or interface of ipaddress")
+        raise TypeError(f"{shown(given)} is no IPv6 network or interface of ipaddress")
 
 
 def copied(given: _Kind, memo: Union[dict[int, Any], None] = None) -> _Kind:
@@ -450,7 +450,7 @@ def from_ipaddress(given: Union[TheirV4, TheirV6, IPv4Interface, IPv6Interface])
         return IPv4Network.from_ipaddress(given)
     if isinstance(given, (TheirV6, IPv6Interface)):
         return IPv6Network.from_ipaddress(given)
-    raise TypeError(f"{given!r} is no network or interface of ipaddress")
+    raise TypeError(f"{shown(given)} is no network or interface of ipaddress")
 
 
 def collapse_addresses(networks: Iterable[_Net]) -> Iterator[_Net]:

@@ -6,9 +6,10 @@ from collections.abc import Iterable, Iterator
 from ipaddress import IPv4Network as TheirV4
 from ipaddress import IPv6Network as TheirV6
 from operator import index
-from typing import TYPE_CHECKING, Literal, SupportsIndex, Union
+from typing import TYPE_CHECKING, Literal, SupportsIndex, Union, overload
 
 from ._chosen import core
+from ._errors import shown
 from ._networks import (
     SINGLE,
     Either,
@@ -24,12 +25,12 @@ from ._networks import (
     rows_of_networks,
     unmapped_network,
 )
-from ._rows import packed
+from ._rows import nulled, packed
 
 if TYPE_CHECKING:
     from typing import Any
 
-    from ._rows import AnyAddress, Packed
+    from ._rows import AnyAddress, Invalid, Packed
 
 _ALL_FOURS, _ALL_SIXES = bytes(5), bytes(17)  # 0.0.0.0/0 and ::/0
 _ALL_MAPPED = bytes(10) + b"\xff\xff" + bytes(4) + b"\x60"  # ::ffff:0:0/96
@@ -215,16 +216,28 @@ class AddressSet:
             raise TypeError(f"a network is asked about, not {type(network).__name__}")
         return self._has(network)
 
-    def contains_column(self, addresses: Packed) -> bytearray:
+    @overload
+    def contains_column(
+        self, addresses: Packed, *, invalid: Literal["raise", False] = ...
+    ) -> bytearray:
+        ...
+
+    @overload
+    def contains_column(self, addresses: Packed, *, invalid: Literal["null"]) -> Any:
+        ...
+
+    def contains_column(self, addresses: Packed, *, invalid: Invalid = "raise") -> Any:
         """For each address of a column a byte: 1 if it is in the set, else 0. The column is a list
         of rows, as for ``ipnetwork.columns``, or has 17 bytes for each address, as
         ``read_address_column`` returns it. A row without an address is not in the set. ValueError
-        for bytes that are not addresses.
+        for bytes that are not addresses, and for a text that names none; ``invalid`` is as there.
 
         >>> list(AddressSet([ip_network("8.0.0.0/8")]).contains_column(["8.8.8.8", "::1", None]))
         [1, 0, 0]
         """
-        return core.set_contains_column(self._search or self._indexed(), packed(addresses))
+        rows = packed(addresses, invalid)
+        answers = core.set_contains_column(self._search or self._indexed(), rows)
+        return nulled(addresses, rows, answers, "?") if invalid == "null" else answers
 
     def first_free(self, prefix: SupportsIndex, within: Given) -> Union[Either, None]:
         """The first block of a prefix length within a network that has no address of the set, or
@@ -274,7 +287,7 @@ class AddressSet:
         AddressSet([IPv4Network('0.0.0.0/1')])
         """
         if version not in (None, 4, 6):
-            raise ValueError(f"version is 4 or 6, for a family, or None, not {version!r}")
+            raise ValueError(f"version is 4 or 6, for a family, or None, not {shown(version)}")
         fours = b"" if version == 6 else core.operate("-", 4, _ALL_FOURS, self._fours)
         taken = self._six_members(self._mapped)
         sixes = b"" if version == 4 else core.operate("-", 6, _ALL_SIXES, taken)

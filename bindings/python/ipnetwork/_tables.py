@@ -5,19 +5,19 @@ from __future__ import annotations
 import sys
 from array import array
 from collections.abc import Iterable, Sequence
-from typing import TYPE_CHECKING, NamedTuple, TypeVar, Union, overload
+from typing import TYPE_CHECKING, Literal, NamedTuple, TypeVar, Union, overload
 
 from ._chosen import core
 from ._joins import Joins, Value
 from ._networks import Either, IPv4Network, IPv6Network, checked, copied, no_network
-from ._rows import packed
+from ._rows import nulled, packed
 
 if TYPE_CHECKING:
     from typing import Any
 
     from _typeshed import ReadableBuffer
 
-    from ._rows import AnyAddress, Packed
+    from ._rows import AnyAddress, Invalid, Packed
 
 _Default = TypeVar("_Default")
 
@@ -181,17 +181,30 @@ class Table(Joins[Value]):
         number = core.table_find(self._search or self._made(), address)
         return None if number < 0 else number
 
-    def find_column(self, addresses: Packed) -> bytearray:
+    @overload
+    def find_column(
+        self, addresses: Packed, *, invalid: Literal["raise", False] = ...
+    ) -> bytearray:
+        ...
+
+    @overload
+    def find_column(self, addresses: Packed, *, invalid: Literal["null"]) -> Any:
+        ...
+
+    def find_column(self, addresses: Packed, *, invalid: Invalid = "raise") -> Any:
         """For each address of a column the number of the longest network that has it, or -1 if none
         does, as signed numbers of 64 bits. The column is a list of rows, as for
         ``ipnetwork.columns``, or has 17 bytes for each address, as ``read_address_column`` returns
-        it. A row without an address has the number -1. ValueError for bytes that are not addresses.
+        it. A row without an address has the number -1. ValueError for bytes that are not addresses,
+        and for a text that names none; ``invalid`` is as there.
 
         >>> table = Table([ip_network("::/0"), ip_network("8.0.0.0/8")])
         >>> memoryview(table.find_column(["8.8.8.8", "::1", None])).cast("q").tolist()
         [1, 0, -1]
         """
-        return core.table_find_column(self._search or self._made(), packed(addresses))
+        rows = packed(addresses, invalid)
+        numbers = core.table_find_column(self._search or self._made(), rows)
+        return nulled(addresses, rows, numbers, "q") if invalid == "null" else numbers
 
     def _joined(self, addresses: ReadableBuffer, default: object) -> list[Any]:
         if self._values is None:

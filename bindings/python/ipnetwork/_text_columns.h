@@ -2,6 +2,7 @@
 #ifndef IPNETWORK_TEXT_COLUMNS_H
 #define IPNETWORK_TEXT_COLUMNS_H
 
+#include <stdlib.h>
 #include "_networks.h"
 
 /* The bytes of a contiguous buffer, to be released; 0 with TypeError if its items are longer than a byte,
@@ -25,29 +26,26 @@ static size_t row_size(int kind) {
                            : sizeof(ipnetwork_address);
 }
 
-/* Offsets of 64 bits are passed to the library as 32-bit offsets, for this many texts at a time. */
-enum { PART = 65536 };
+/* What the library reads of a buffer is copied first, because another thread may write to the buffer meanwhile:
+ * so many texts, and so many bytes of texts or of rows, at a time. */
+enum { PART = 256, PART_BYTES = PART * IPNETWORK_V6_TEXT };
 
-/* Memory for the offsets of a part with `count` texts, to be freed; NULL with MemoryError. */
-static uint32_t *part_of(size_t count) {
-    uint32_t *part = PyMem_Malloc(((count < PART ? count : PART) + 1) * sizeof *part);
-    if (part == NULL) PyErr_NoMemory();
-    return part;
-}
-
-static uint64_t offset_at(const char *offsets, size_t row) {
-    uint64_t offset;
-    memcpy(&offset, offsets + row * sizeof offset, sizeof offset);
-    return offset;
-}
+typedef struct {
+    union {
+        uint32_t narrow[PART + 1];
+        uint64_t wide[PART + 1];
+    } given;                    /* offsets as they are in the buffer */
+    uint32_t offsets[PART + 1]; /* from the first of the part */
+    char bytes[PART_BYTES];
+} Part;
 
 /* ---- read ---- */
 
-/* Reads the texts with these offsets, one more than texts, or none. */
+/* Reads the texts with these offsets, one more than texts. */
 static ipnetwork_fault read_part(int kind, const char *texts, size_t length,
-                                 const uint32_t *offsets, size_t starts, void *rows,
+                                 const uint32_t *offsets, size_t count, void *rows,
                                  uint8_t *faults) {
-    size_t count = starts == 0 ? 0 : starts - 1;
+    size_t starts = count + 1;
     if (kind == OF_V4)
         return ipnetwork_v4_read_column(texts, length, offsets, starts, rows, count, faults, count);
     if (kind == OF_V6)
@@ -56,55 +54,88 @@ static ipnetwork_fault read_part(int kind, const char *texts, size_t length,
                                          count);
 }
 
-/* Reads one text that is too long for an offset of 32 bits. */
-static ipnetwork_fault read_long(int kind, const char *text, size_t length, void *row) {
-    return kind == OF_V4   ? ipnetwork_v4_read(text, length, row)
-           : kind == OF_V6 ? ipnetwork_v6_read(text, length, row)
-                           : ipnetwork_address_read(text, length, row);
+/* Not a fault of the library: no memory for a copy of a long text. */
+enum { NO_MEMORY = 255 };
+
+/* Reads one text that is longer than a part; it may be too long for an offset of 32 bits. */
+static ipnetwork_fault read_long(int kind, const char *given, size_t length, void *row,
+                                 uint8_t *fault) {
+    char *text = malloc(length);
+    if (text == NULL) return NO_MEMORY;
+    memcpy(text, given, length);
+    *fault = (uint8_t)(kind == OF_V4   ? ipnetwork_v4_read(text, length, row)
+                       : kind == OF_V6 ? ipnetwork_v6_read(text, length, row)
+                                       : ipnetwork_address_read(text, length, row));
+    free(text);
+    return IPNETWORK_OK;
 }
 
-/* Whether no offset of 64 bits is less than the one before, and none is past the end. */
-static int ascend(const char *offsets, size_t starts, uint64_t end) {
-    uint64_t before = 0;
-    for (size_t row = 0; row < starts; row++) {
-        uint64_t offset = offset_at(offsets, row);
-        if (offset < before || offset > end) return 0;
-        before = offset;
+static uint64_t given_at(const Part *part, int wide, size_t row) {
+    return wide ? part->given.wide[row] : part->given.narrow[row];
+}
+
+/* Counts the copied offsets from the first of them; 0 if one is not of 32 bits then. */
+static int count_offsets(Part *part, int wide, size_t last) {
+    const uint32_t *narrow = part->given.narrow;
+    const uint64_t *whole = part->given.wide;
+    uint64_t high = 0;
+    for (size_t row = 0; !wide && row <= last; row++) part->offsets[row] = narrow[row] - narrow[0];
+    for (size_t row = 0; wide && row <= last; row++) {
+        part->offsets[row] = (uint32_t)(whole[row] - whole[0]);
+        high |= (whole[row] - whole[0]) >> 32;
     }
-    return 1;
+    return high == 0;
 }
 
-/* The number of texts from a row on that make a part, and their offsets; none if the first text is too
- * long. */
-static size_t part_from(const char *offsets, size_t row, size_t count, uint32_t *part) {
-    uint64_t base = offset_at(offsets, row), end;
-    size_t taken = 0;
-    part[0] = 0;
-    while (taken < PART && row + taken < count
-           && (end = offset_at(offsets, row + taken + 1) - base) <= INT32_MAX)
-        part[++taken] = (uint32_t)end;
-    return taken;
+/* Copies the offsets of at most `count` texts. How many of these texts fit in a part is written to *taken: 0 if
+ * not even the first one does. IPNETWORK_NO_OFFSETS if they go past the length of all texts; whether the offsets
+ * within them decrease is for the library to see. */
+static ipnetwork_fault take(Part *part, const char *offsets, int wide, size_t count, size_t length,
+                            size_t *taken) {
+    memcpy(&part->given, offsets, (count + 1) * (wide ? sizeof(uint64_t) : sizeof(uint32_t)));
+    uint64_t base = given_at(part, wide, 0), end;
+    while ((end = given_at(part, wide, count)) < base || end - base > PART_BYTES) {
+        if (count == 1) break;
+        count /= 2;
+    }
+    if (end < base || end > length) return IPNETWORK_NO_OFFSETS;
+    *taken = end - base > PART_BYTES ? 0 : count;
+    return count_offsets(part, wide, *taken) ? IPNETWORK_OK : IPNETWORK_NO_OFFSETS;
 }
 
-/* The same as `read_part` with offsets of 64 bits. */
-static ipnetwork_fault read_wide(int kind, const char *texts, size_t length, const char *offsets,
-                                 size_t starts, uint32_t *part, char *rows, uint8_t *faults) {
-    size_t step = row_size(kind), count = starts == 0 ? 0 : starts - 1;
-    if (!ascend(offsets, starts, length)) return IPNETWORK_NO_OFFSETS;
-    for (size_t row = 0; row < count;) {
-        uint64_t base = offset_at(offsets, row);
-        size_t taken = part_from(offsets, row, count, part);
-        if (taken == 0) {
-            size_t whole = offset_at(offsets, row + 1) - base;
-            faults[row] = (uint8_t)read_long(kind, texts + base, whole, rows + row * step);
-            row++;
-            continue;
+/* The bytes of the texts of a part: themselves if they are those of a `bytes`, which do not change, else a
+ * copy. */
+static const char *bytes_in(Part *part, int fixed, const char *bytes, size_t length) {
+    return fixed ? bytes : memcpy(part->bytes, bytes, length);
+}
+
+/* Reads the texts with these offsets, one more than texts, or none. */
+static ipnetwork_fault read_texts(int kind, const Py_buffer *texts, const Py_buffer *offsets,
+                                  char *rows, uint8_t *faults) {
+    Part part;
+    size_t width = (size_t)offsets->itemsize, starts = (size_t)offsets->len / width;
+    size_t step = row_size(kind), length = (size_t)texts->len, row = 0, taken;
+    int wide = width == sizeof(uint64_t), fixed = texts->obj != NULL && PyBytes_Check(texts->obj);
+    if (starts == 0) return IPNETWORK_OK;
+    do {
+        size_t count = starts - 1 - row < PART ? starts - 1 - row : PART;
+        ipnetwork_fault fault = take(&part, (const char *)offsets->buf + row * width, wide, count,
+                                     length, &taken);
+        if (fault != IPNETWORK_OK) return fault;
+        const char *from = (const char *)texts->buf + given_at(&part, wide, 0);
+        char *into = rows + row * step;
+        if (count > 0 && taken == 0) {
+            size_t whole = (size_t)(given_at(&part, wide, 1) - given_at(&part, wide, 0));
+            fault = read_long(kind, from, whole, into, faults + row);
+            taken = 1;
+        } else {
+            from = bytes_in(&part, fixed, from, part.offsets[taken]);
+            fault = read_part(kind, from, part.offsets[taken], part.offsets, taken, into,
+                              faults + row);
         }
-        ipnetwork_fault fault = read_part(kind, texts + base, part[taken], part, taken + 1,
-                                          rows + row * step, faults + row);
         if (fault != IPNETWORK_OK) return fault;
         row += taken;
-    }
+    } while (row + 1 < starts);
     return IPNETWORK_OK;
 }
 
@@ -119,7 +150,7 @@ static int offsets_of(PyObject *given, Py_buffer *offsets) {
                      offsets->itemsize * 8);
     else if (strlen(format) != 1 || strchr("iIlLqQnN", *format) == NULL)
         PyErr_Format(PyExc_TypeError, "offsets are whole numbers in the order of the machine, not "
-                     "of the format %s", offsets->format);
+                     "of the format %.60s", offsets->format);
     else
         return 1;
     PyBuffer_Release(offsets);
@@ -129,17 +160,11 @@ static int offsets_of(PyObject *given, Py_buffer *offsets) {
 /* Reads a column into as many rows and faults as texts; 0 with an exception. */
 static int read_into(int kind, const Py_buffer *texts, const Py_buffer *offsets, char *rows,
                      uint8_t *faults) {
-    size_t starts = (size_t)(offsets->len / offsets->itemsize), length = (size_t)texts->len;
-    uint32_t *part = NULL;
-    const char *text = texts->buf;
     ipnetwork_fault fault;
-    if (offsets->itemsize == 8 && (part = part_of(starts)) == NULL) return 0;
     Py_BEGIN_ALLOW_THREADS
-    fault = part == NULL
-                ? read_part(kind, text, length, offsets->buf, starts, rows, faults)
-                : read_wide(kind, text, length, offsets->buf, starts, part, rows, faults);
+    fault = read_texts(kind, texts, offsets, rows, faults);
     Py_END_ALLOW_THREADS
-    PyMem_Free(part);
+    if (fault == NO_MEMORY) return PyErr_NoMemory(), 0;
     if (fault != IPNETWORK_NO_OFFSETS) return answered(fault);
     PyErr_SetString(PyExc_ValueError, "the offsets fall, or pass the end of the texts");
     return 0;
@@ -188,22 +213,31 @@ static ipnetwork_fault print_part(int kind, const void *rows, size_t count, char
     return ipnetwork_address_print_column(rows, count, texts, room, offsets, starts, length);
 }
 
-/* The same with offsets of 64 bits. */
-static ipnetwork_fault print_wide(int kind, const char *rows, size_t count, char *texts,
-                                  size_t room, char *offsets, uint32_t *part, size_t *length) {
-    size_t step = row_size(kind), taken, more;
+/* Writes the offset of a row, of 64 bits or of 32. */
+static void put_offset(char *offsets, int wide, size_t row, uint64_t offset) {
+    uint32_t narrow = (uint32_t)offset;
+    if (wide) memcpy(offsets + row * sizeof offset, &offset, sizeof offset);
+    else memcpy(offsets + row * sizeof narrow, &narrow, sizeof narrow);
+}
+
+/* Prints rows, a part at a time. IPNETWORK_SHORT_BUFFER if the texts go past offsets of 32 bits. */
+static ipnetwork_fault print_parts(int kind, const char *rows, size_t count, char *texts,
+                                   size_t room, char *offsets, int wide, size_t *length) {
+    Part part;
+    size_t step = row_size(kind), most = PART_BYTES / step, taken, more;
+    if (most > PART) most = PART;
     *length = 0;
-    memset(offsets, 0, sizeof(uint64_t));
+    put_offset(offsets, wide, 0, 0);
     for (size_t row = 0; row < count; row += taken) {
-        taken = count - row < PART ? count - row : PART;
-        ipnetwork_fault fault = print_part(kind, rows + row * step, taken, texts + *length,
-                                           room - *length, part, &more);
+        taken = count - row < most ? count - row : most;
+        memcpy(part.bytes, rows + row * step, taken * step);
+        ipnetwork_fault fault = print_part(kind, part.bytes, taken, texts + *length,
+                                           room - *length, part.offsets, &more);
         if (fault != IPNETWORK_OK) return fault;
-        for (size_t place = 1; place <= taken; place++) {
-            uint64_t end = *length + part[place];
-            memcpy(offsets + (row + place) * sizeof end, &end, sizeof end);
-        }
+        for (size_t place = 1; place <= taken; place++)
+            put_offset(offsets, wide, row + place, *length + part.offsets[place]);
         *length += more;
+        if (!wide && *length > INT32_MAX) return IPNETWORK_SHORT_BUFFER;
     }
     return IPNETWORK_OK;
 }
@@ -211,15 +245,11 @@ static ipnetwork_fault print_wide(int kind, const char *rows, size_t count, char
 /* Prints rows, and tells how many bytes their texts have; 0 with an exception. */
 static int print_into(State *state, int kind, PyObject *given, const Py_buffer *rows, int wide,
                       char *texts, size_t room, char *offsets, size_t *length) {
-    size_t count = (size_t)rows->len / row_size(kind);
-    uint32_t *part = NULL;
     ipnetwork_fault fault;
-    if (wide && (part = part_of(count)) == NULL) return 0;
     Py_BEGIN_ALLOW_THREADS
-    fault = wide ? print_wide(kind, rows->buf, count, texts, room, offsets, part, length)
-                 : print_part(kind, rows->buf, count, texts, room, offsets, length);
+    fault = print_parts(kind, rows->buf, (size_t)rows->len / row_size(kind), texts, room, offsets,
+                        wide, length);
     Py_END_ALLOW_THREADS
-    PyMem_Free(part);
     if (fault == IPNETWORK_SHORT_BUFFER)
         PyErr_SetString(PyExc_ValueError, "the texts have more than 2147483647 bytes, which is "
                         "past offsets of 32 bits: ask for those of 64");
