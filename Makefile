@@ -68,7 +68,7 @@ EXTENSION = $(OUT)/cidr.so
 PROGRAMS = cidr cidr_merge cidr_filter cidr_join cidr_info
 # The scripts that cut a large input in parts, and what they share.
 SCRIPTS = cidr/in_parts.sh cidr/find_in_parts.sh cidr_merge/in_parts.sh cidr_filter/in_parts.sh cidr_join/in_parts.sh
-SHARED_SCRIPTS = program.sh log_in_parts.sh
+SHARED_SCRIPTS = program.sh parts.sh log_in_parts.sh
 # The folder of the kit, if the first rt of the PATH is that of a kit.
 KIT ?= $(shell command -v rt > /dev/null && dirname "$$(dirname "$$(readlink -f "$$(command -v rt)")")")
 # Not empty if the plain programs are taken, and the plain library for C.
