@@ -21,11 +21,11 @@
 #                                         wheel for Python and the extension of SQLite; into bindings/out/aarch64
 #   make static                           links the programs that are built once more, with the C library in each, so that
 #                                         they need no file where they run; into bindings/out/static
-#   make install PREFIX=/usr DESTDIR=/tmp/package
+#   make install PREFIX=/usr DESTDIR=package
 #                                         installs what is built: the programs, their manual pages and completions, the
 #                                         library for C with its header, and the extension of SQLite; with STATIC=1 the
 #                                         programs of make static
-#   make uninstall PREFIX=/usr DESTDIR=/tmp/package
+#   make uninstall PREFIX=/usr DESTDIR=package
 #   make deb                              Debian packages of what is built, in bindings/out/deb
 #   make dist                             the files of a release, of what is proved, in the folder dist: archives and packages for
 #                                         Linux on x86-64 and ARM64, wheels, crates and more, with checksums (scripts/dist)
