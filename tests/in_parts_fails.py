@@ -101,7 +101,7 @@ def commands(scripts, folder):
     yield "cidr/in_parts.sh", [], reads, run([program("cidr")], reads)
     yield "cidr/find_in_parts.sh", [folder / "routes"], finds, (0, found)
     yield "cidr_merge/in_parts.sh", [], networks, run([program("cidr_merge"), "union", "-"], networks)
-    for name, words in (("cidr_filter", ["-ve", "10.0.0.0/8"]), ("cidr_filter", ["-cve", "10.0.0.0/8"]), ("cidr_join", ["-f", folder / "list"])):
+    for name, words in (("cidr_filter", ["-ve", "10.0.0.0/8"]), ("cidr_filter", ["-Hcve", "10.0.0.0/8"]), ("cidr_join", ["-f", folder / "list"])):
         yield f"{name}/in_parts.sh", words, LOG, run([program(name), *words], LOG)
 
 

@@ -54,7 +54,9 @@ if [ "$counts" ]; then
     filter_parts > "$folder/counts" || failed=1
     total=0
     while read -r count; do
-        total=$((total + ${count#"$named"}))
+        count=${count#"$named"}
+        [[ $count =~ ^[0-9]+$ ]] || exit 2
+        total=$((total + count))
     done < "$folder/counts"
     printf '%s\n' "$named$total"
 else
