@@ -21,11 +21,11 @@
 #                                         wheel for Python and the extension of SQLite; into bindings/out/aarch64
 #   make static                           links the programs that are built once more, with the C library in each, so that
 #                                         they need no file where they run; into bindings/out/static
-#   make install PREFIX=/usr DESTDIR=/tmp/package
+#   make install PREFIX=/usr DESTDIR=package
 #                                         installs what is built: the programs, their manual pages and completions, the
 #                                         library for C with its header, and the extension of SQLite; with STATIC=1 the
 #                                         programs of make static
-#   make uninstall PREFIX=/usr DESTDIR=/tmp/package
+#   make uninstall PREFIX=/usr DESTDIR=package
 #   make deb                              Debian packages of what is built, in bindings/out/deb
 #   make dist                             the files of a release, of what is proved, in the folder dist: archives and packages for
 #                                         Linux on x86-64 and ARM64, wheels, crates and more, with checksums (scripts/dist)
@@ -68,7 +68,7 @@ EXTENSION = $(OUT)/cidr.so
 PROGRAMS = cidr cidr_merge cidr_filter cidr_join cidr_info
 # The scripts that cut a large input in parts, and what they share.
 SCRIPTS = cidr/in_parts.sh cidr/find_in_parts.sh cidr_merge/in_parts.sh cidr_filter/in_parts.sh cidr_join/in_parts.sh
-SHARED_SCRIPTS = program.sh log_in_parts.sh
+SHARED_SCRIPTS = program.sh parts.sh log_in_parts.sh
 # The folder of the kit, if the first rt of the PATH is that of a kit.
 KIT ?= $(shell command -v rt > /dev/null && dirname "$$(dirname "$$(readlink -f "$$(command -v rt)")")")
 # Not empty if the plain programs are taken, and the plain library for C.

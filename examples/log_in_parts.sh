@@ -1,81 +1,77 @@
-# shellcheck shell=bash disable=SC2154
-# What the scripts `in_parts.sh` of cidr_filter and cidr_join share, which read it with `.`. They set
+# shellcheck shell=bash disable=SC2034,SC2154
+# What the scripts `in_parts.sh` of cidr_filter and cidr_join share, which read it with `.`, after parts.sh. They set
 #
 #   program     the program, by its path
 #   valued      its options that take a value, between blanks: a letter as `-k`, and others, which may be `--NAME=VALUE`
 #
-# and have a function `option NAME [VALUE]`, which is told each option.
-
-refuse() {
-    printf 'in_parts.sh: %s\n' "$1" >&2
-    exit 2
-}
+# and have a function `option NAME [VALUE]`, which is told each option, and may set another `value`.
 
 takes_value() {
     [[ $valued == *" $1 "* ]]
 }
 
-# The options of letters behind one `-`. `taken` is how many words behind it are the value of the last.
-letters() {
-    local text=$1 name
-    taken=0
-    while [ "$text" ]; do
-        name=-${text:0:1}
-        text=${text:1}
-        if takes_value "$name"; then
-            [ "$text" ] || taken=1
-            option "$name" "${text:-$2}"
-            return
-        fi
-        option "$name"
-    done
-}
-
 # Tells `option` each option of these words, and refuses FILEs, since the log is standard input. What is wrong with them
-# otherwise, the program tells.
+# otherwise, the program tells. `words` is then the command for a part.
 each_option() {
-    local word taken
+    local word name rest value
+    words=("$program")
     while [ $# -gt 0 ]; do
-        word=$1 taken=0
+        word=$1 name=$1 rest=
         shift
         case $word in
         --) [ $# -eq 0 ] || refuse "$1: the log is standard input" ;;
-        --*=*) option "${word%%=*}" "${word#*=}" ;;
-        --*)
-            if takes_value "$word"; then
-                taken=1
-                option "$word" "${1-}"
-            else
-                option "$word"
-            fi
+        --*=*) name=${word%%=*} rest=${word#*=} ;;
+        --*) ;;
+        -?*)
+            # Letters that take no value, and one that may.
+            name=${word:0:2} rest=${word:2}
+            while [ "$rest" ] && ! takes_value "$name"; do
+                option "$name"
+                name=-${rest:0:1} rest=${rest:1}
+            done
             ;;
-        -?*) letters "${word#-}" "${1-}" ;;
         *) refuse "$word: the log is standard input" ;;
         esac
-        [ $taken -le $# ] || return 0
-        shift $taken
+        value=$rest
+        if [[ $rest || $word == --*=* ]]; then
+            option "$name" "$value"
+            words+=("${word%"$rest"}$value")
+        elif [ $# -gt 0 ] && takes_value "$name"; then
+            value=$1
+            option "$name" "$value"
+            words+=("$word" "$value")
+            shift
+        else
+            option "$name"
+            words+=("$word")
+        fi
     done
 }
 
-# The lists are read once before the log, so that what is refused of them is told once.
-check_lists() {
-    local status=0
-    "$program" "$@" < /dev/null > /dev/null || status=$?
-    [ $status -le 1 ] || exit 2
+lists=()
+
+# Reads a list once, into a copy that each part reads: of a pipe all parts but the first would find nothing, and a file
+# may change meanwhile. The value of the option is then the copy. Other machines read the file that has this name there.
+list() {
+    [[ $1 != - && ! $1 -ef /dev/stdin ]] || refuse "-f $1: standard input is the log"
+    if [ "$machines" ]; then
+        [ -f "$1" ] || refuse "-f $1: no regular file, which other machines could read"
+    elif [ -e "$1" ] && [ ! -d "$1" ]; then
+        value=$folder/${#lists[@]}.list
+        cat -- "$1" > "$value"
+        lists+=("$1")
+    fi
 }
 
-# Runs a command on each part of standard input, and prints what the parts print, in their order: on all processors by
-# GNU parallel, whose further options the variable PARALLEL has, or else one part after the other, of PART_LINES lines.
-in_parts() {
-    if command -v parallel > /dev/null; then
-        PARALLEL="--block 64M ${PARALLEL-}" parallel --pipe --keep-order --quote "$@"
-    else
-        local failed status=0
-        failed=$(mktemp)
-        SHELL=$(command -v bash) split --lines="${PART_LINES:-500000}" \
-            --filter="$(printf '%q ' "$@") || { [ \$? -eq 2 ] && echo > $(printf '%q' "$failed"); }" || status=$?
-        [ ! -s "$failed" ] || status=2
-        rm -f "$failed"
-        return "$status"
-    fi
+# The lists are read once before the log, so that what is refused of them is told once, by the names of the lists.
+check_lists() {
+    local status=0 told number
+    : > "$folder/told"
+    "${words[@]}" < /dev/null > /dev/null 2> "$folder/told" || status=$?
+    told=$(< "$folder/told")
+    for number in "${!lists[@]}"; do
+        told=${told//"$folder/$number.list"/"${lists[number]}"}
+    done
+    [ ! "$told" ] || printf '%s\n' "$told" >&2
+    [ $status -le 1 ] || exit 2
 }

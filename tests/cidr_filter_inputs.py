@@ -218,7 +218,7 @@ def without_parallel(folder):
     """A folder with the commands that the script needs, and no others."""
     commands = os.path.join(folder, "commands")
     os.mkdir(commands)
-    for command in ("bash", "dirname", "mktemp", "rm", "split"):
+    for command in ("bash", "cat", "dirname", "mktemp", "rm", "split"):
         os.symlink(shutil.which(command), os.path.join(commands, command))
     return commands
 

@@ -5,24 +5,17 @@
 #
 # usage: examples/cidr/find_in_parts.sh ROUTES < INPUT > OUTPUT
 #
-# ROUTES is a file of lines such as `add 10.0.0.0/8 1`. The status is 0 unless a part failed. Without GNU parallel, the
-# parts are answered one after the other.
-set -eu -o pipefail
+# ROUTES is a file of lines such as `add 10.0.0.0/8 1`, which is read once, so that it may be a pipe. The status is 0, or
+# 2 if anything failed. Without GNU parallel, the parts are answered one after the other.
+set -eEu -o pipefail
+. "$(dirname "$0")/../parts.sh" || exit 2
 . "$(dirname "$0")/../program.sh"
+not_elsewhere
 program=$(program_of cidr)
-routes=$1
-if [ ! -r "$routes" ]; then
-    echo "$routes: cannot read" >&2
-    exit 2
-fi
-if [ -n "$(tail -c 1 "$routes")" ]; then
-    echo "$routes: the last line has no line feed" >&2
-    exit 2
-fi
-part='set -o pipefail; cat "$1" - | "$0" | tail -n +"$2"'
-first=$(($(wc -l < "$routes") + 1))
-if command -v parallel > /dev/null; then
-    parallel --pipe --keep-order --block 64M --quote bash -c "$part" "$program" "$routes" "$first"
-else
-    split --lines=500000 --filter="bash -c $(printf '%q ' "$part" "$program" "$routes" "$first")"
-fi
+[ $# -eq 1 ] || refuse "usage: ${0##*/} ROUTES < INPUT > OUTPUT"
+[ ! "$1" -ef /dev/stdin ] || refuse "$1: standard input is the input"
+routes=$folder/routes
+cat -- "$1" > "$routes"
+[ -z "$(tail -c 1 "$routes")" ] || refuse "$1: the last line has no line feed"
+part='set -o pipefail; cat "$1" - | "$0" | tail -n +"$2" || exit 2'
+in_parts bash -c "$part" "$program" "$routes" $(($(wc -l < "$routes") + 1))

@@ -2,10 +2,14 @@
 # Answers a large input by several processes: it is cut at line ends, each part is answered by itself, and the answers
 # come out in the order of the lines. For inputs without `add`, `drop` and `find`, as the law `split_at_line_ends` says.
 #
-# usage: examples/cidr/in_parts.sh [OPTION ..] < INPUT > OUTPUT      the options are those of GNU parallel, which it needs
+# usage: examples/cidr/in_parts.sh [OPTION ..] < INPUT > OUTPUT
 #
-# With `--sshlogin ONE,TWO` the parts go to these machines, which need the program at the same path.
-set -eu
+# The options are `--block`, `--jobs` and `--sshlogin` of GNU parallel. With `--sshlogin ONE,TWO` the parts go to these
+# machines, which need the program at the same path. Without GNU parallel, the parts are answered one after the other;
+# the options do nothing then. The status is 0, or 2 if anything failed.
+set -eEu -o pipefail
+. "$(dirname "$0")/../parts.sh" || exit 2
 . "$(dirname "$0")/../program.sh"
+parallel_options "$@"
 program=$(program_of cidr)
-exec parallel --quote --pipe --keep-order --block 64M "$@" "$program"
+in_parts "$program"

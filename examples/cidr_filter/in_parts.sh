@@ -7,13 +7,16 @@
 #
 # The options are those of cidr_filter, also joined in one word. With `-c` the numbers of the parts
 # are added up. `--bad stop` is refused: a line would end its part only; and so are `-m`, `-l`, `-q`
-# and `-n`. Without GNU parallel, the parts are filtered one after the other.
+# and `-n`. Without GNU parallel, the parts are filtered one after the other. The lists are copied
+# first, so that they may be pipes; the parts are filtered on this machine.
 #
 # If a line is too long, it is reported with its number in its part; the other parts are filtered all
 # the same, and the status is 2.
-set -eu -o pipefail
+set -eEu -o pipefail
+. "$(dirname "$0")/../parts.sh" || exit 2
 . "$(dirname "$0")/../log_in_parts.sh"
 . "$(dirname "$0")/../program.sh"
+not_elsewhere
 program=$(program_of cidr_filter)
 valued=" -f -e -k -d -m --nth --after --bad "
 
@@ -21,7 +24,7 @@ counts=
 named=
 option() {
     case $1 in
-    -f) [ "$2" != - ] || refuse "-f -: standard input is the log" ;;
+    -f) [ $# -lt 2 ] || list "$2" ;;
     -c) counts=1 ;;
     -H) named='(standard input):' ;;
     -n) refuse "-n: each part would be numbered from 1" ;;
@@ -34,30 +37,30 @@ option() {
     esac
 }
 each_option "$@"
-check_lists "$@"
+check_lists
 
 failed=
-folder=$(mktemp -d)
-trap 'rm -rf "$folder"' EXIT
 # A part of which no line is selected has status 1.
 part='folder=$1; shift; status=0
 "$0" "$@" || status=$?
-[ $status -ne 0 ] || : > "$folder/selected"
+[ $status -ne 0 ] || : > "$folder/selected" || exit 2
 [ $status -le 1 ] || exit $status'
 
 filter_parts() {
-    in_parts bash -c "$part" "$program" "$folder" "$@"
+    in_parts bash -c "$part" "$program" "$folder" "${words[@]:1}"
 }
 
 if [ "$counts" ]; then
-    filter_parts "$@" > "$folder/counts" || failed=1
+    filter_parts > "$folder/counts" || failed=1
     total=0
     while read -r count; do
-        total=$((total + ${count#"$named"}))
+        count=${count#"$named"}
+        [[ $count =~ ^[0-9]+$ ]] || exit 2
+        total=$((total + count))
     done < "$folder/counts"
     printf '%s\n' "$named$total"
 else
-    filter_parts "$@" || failed=1
+    filter_parts || failed=1
 fi
 [ ! "$failed" ] || exit 2
-[ -e "$folder/selected" ]
+[ -e "$folder/selected" ] || exit 1

@@ -6,18 +6,21 @@ joined by itself. What is printed is that of the whole log (the laws `outputs_of
     examples/cidr_join/by_dask.py [--scheduler ADDRESS] [--block BYTES] OPTION.. < LOG > JOINED
 
 The options are those of cidr_join. With --tally the counts of the parts are added up. The workers of the scheduler at
-ADDRESS need the program and the list at the same path; without a scheduler one is started here, with a worker for each
-processor. A part has about BYTES, 64 MB if that is not given. If a line is too long, it is reported with its number in
-its part; the other parts are joined all the same, and the status is 2. `--bad stop` is refused: a line would end its
-part only. With `--skip-bad` the refused lines of the list are reported for each part.
+ADDRESS need the program and the list, a regular file, at the same path; without a scheduler one is started here, with a
+worker for each processor, and the lists are copied first, so that they may be pipes. A part has about BYTES, 64 MB if
+that is not given. If a line is too long, it is reported with its number in its part; the other parts are joined all the
+same, and the status is 2. `--bad stop` is refused: a line would end its part only. With `--skip-bad` the refused lines of
+the list are reported for each part.
 """
 
 import collections
 import os
 import pathlib
 import re
+import shutil
 import subprocess
 import sys
+import tempfile
 
 from dask.distributed import Client, LocalCluster
 
@@ -36,30 +39,50 @@ def refuse(why):
 
 
 def options(words):
-    """Each option of these words, and its value. FILEs are refused, since the log is standard input."""
+    """Each option of these words, with its value if it has one. FILEs are refused, since the log is standard input."""
     rest = iter(words)
     for word in rest:
-        letters = re.fullmatch("-[aw]*([fkd])(.*)", word, re.S)
+        letters = re.fullmatch("-([aw]*)([fkd])(.*)", word, re.S)
         if letters:
-            yield "-" + letters[1], letters[2] or next(rest, "")
+            yield from (["-" + letter] for letter in letters[1])
+            yield ["-" + letters[2], letters[3] or next(rest, "")]
         elif word in ("--after", "--bad", "--group", "--nth"):
-            yield word, next(rest, "")
+            yield [word, next(rest, "")]
         elif word == "--" or not re.match("-.", word):
             refuse(f"{word}: the log is standard input")
         else:
-            yield word, ""
+            yield [word]
 
 
-def check(words):
-    """Whether a tally is asked for. The list is read once before the log, so that what is refused of it is told once."""
+def list_of_parts(name, folder):
+    """The name of the list that each part reads: of a copy in this folder, since a pipe would be empty for all parts but
+    the first; if there is no folder, of the list itself, which other machines have too."""
+    try:
+        if name == "-" or os.path.samestat(os.stat(name), os.fstat(0)):
+            refuse(f"-f {name}: standard input is the log")
+        if not folder:
+            return name if os.path.isfile(name) else refuse(f"-f {name}: no regular file, which the workers could read")
+        copy = tempfile.NamedTemporaryFile(dir=folder, delete=False)
+        with copy, open(name, "rb") as file:
+            shutil.copyfileobj(file, copy)
+    except OSError as error:
+        refuse(f"-f {name}: {error.strerror}")
+    return copy.name
+
+
+def checked(words, folder):
+    """The words for a part, and whether a tally is asked for. The lists are copied into this folder, if there is one, and
+    read once before the log, so that what is refused of them is told once."""
     asked = list(options(words))
-    if ("-f", "-") in asked:
-        refuse("-f -: standard input is the log")
-    if ("--bad", "stop") in asked or ("--bad=stop", "") in asked:
+    if ["--bad", "stop"] in asked or ["--bad=stop"] in asked:
         refuse("--bad stop: a line would end its part only")
+    for option in asked:
+        if option[0] == "-f":
+            option[1] = list_of_parts(option[1], folder)
+    words = [word for option in asked for word in option]
     if subprocess.run([PROGRAM, *words], stdin=subprocess.DEVNULL, stdout=subprocess.DEVNULL).returncode:
         sys.exit(2)
-    return ("--tally", "") in asked
+    return words, ["--tally"] in asked
 
 
 def parts(log, size):
@@ -117,13 +140,16 @@ def main(words):
     own = {"--scheduler": None, "--block": 1 << 26}
     while len(words) > 1 and words[0] in own:
         own[words[0]], words = words[1], words[2:]
-    is_tally, size = check(words), int(own["--block"])
+    size = int(own["--block"])
     if own["--scheduler"]:
+        words, is_tally = checked(words, None)
         with Client(own["--scheduler"]) as client:
             return join(client, words, size, is_tally)
     local = {"threads_per_worker": 1, "protocol": "tcp", "host": "127.0.0.1", "dashboard_address": None}
-    with LocalCluster(processes=True, **local) as cluster, Client(cluster) as client:
-        return join(client, words, size, is_tally)
+    with tempfile.TemporaryDirectory() as folder:
+        words, is_tally = checked(words, folder)
+        with LocalCluster(processes=True, **local) as cluster, Client(cluster) as client:
+            return join(client, words, size, is_tally)
 
 
 if __name__ == "__main__":

@@ -7,11 +7,13 @@
 # The options are those of cidr_join, also joined in one word. With `--tally` the counts of the parts are added up, of
 # each text, and printed most first, those of one count in the order of the bytes of the texts. Without GNU parallel, the
 # parts are joined one after the other. With PARALLEL='--sshlogin ONE,TWO' they go to these machines, which need the
-# program and the list at the same path. `--bad stop` is refused: a line would end its part only.
+# program and the list, a regular file, at the same path; else the lists are copied first, so that they may be pipes.
+# `--bad stop` is refused: a line would end its part only.
 #
 # If a line is too long, it is reported with its number in its part; the other parts are joined all the same, and the
 # status is 2. With `--skip-bad` the refused lines of the list are reported for each part.
-set -eu -o pipefail
+set -eEu -o pipefail
+. "$(dirname "$0")/../parts.sh" || exit 2
 . "$(dirname "$0")/../log_in_parts.sh"
 . "$(dirname "$0")/../program.sh"
 program=$(program_of cidr_join)
@@ -20,7 +22,7 @@ valued=" -f -k -d --nth --after --group --bad "
 tally=
 option() {
     case $1 in
-    -f) [ "$2" != - ] || refuse "-f -: standard input is the log" ;;
+    -f) [ $# -lt 2 ] || list "$2" ;;
     --tally) tally=1 ;;
     --bad)
         case ${2-} in
@@ -30,18 +32,17 @@ option() {
     esac
 }
 each_option "$@"
-check_lists "$@"
+check_lists
 
 if [ ! "$tally" ]; then
-    in_parts "$program" "$@" || exit 2
+    in_parts "${words[@]}"
     exit 0
 fi
-rows=$(mktemp)
-trap 'rm -f "$rows"' EXIT
+rows=$folder/rows
 status=0
-in_parts "$program" "$@" > "$rows" || status=2
+in_parts "${words[@]}" > "$rows" || status=2
 # An empty log has no parts, but rows with `--zero`.
-[ -s "$rows" ] || "$program" "$@" < /dev/null > "$rows" || status=2
+[ -s "$rows" ] || "${words[@]}" < /dev/null > "$rows" || status=2
 # A row is a count, a tab and a text, which may have tabs too.
 export LC_ALL=C
 tab=$'\t'
