@@ -46,7 +46,7 @@
         ipnetwork_fault fault =                                                                            \
             ipnetwork_##V##_table_make(list->networks, count, list->blocks, count, list->numbers, count);  \
         if (fault == IPNETWORK_OK)                                                                         \
-            fault = ipnetwork_##V##_index_make(list->blocks, count, list->index, list->index_length);      \
+            fault = ipnetwork_##V##_table_index_make(list->blocks, count, list->index, list->index_length); \
         return fault == IPNETWORK_OK ? SQLITE_OK : SQLITE_ERROR;                                           \
     }                                                                                                      \
                                                                                                            \

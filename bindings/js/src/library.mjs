@@ -59,6 +59,8 @@ export const {
   ipnetwork_index_size: indexSize,
   ipnetwork_v4_index_make: v4IndexMake,
   ipnetwork_v6_index_make: v6IndexMake,
+  ipnetwork_v4_table_index_make: v4TableIndexMake,
+  ipnetwork_v6_table_index_make: v6TableIndexMake,
   ipnetwork_v4_index_contains: v4IndexContains,
   ipnetwork_v6_index_contains: v6IndexContains,
   ipnetwork_v4_index_contains_column: v4IndexContainsColumn,

@@ -80,7 +80,7 @@ def _load() -> ctypes.CDLL:
             ("contains_column", [octets, pointer, size, pointer, size]),
             ("table_make", [octets, size, pointer, size, pointer, size]),
             ("ranges_make_numbered", [octets, size, octets, size, octets, size, *numbered]),
-            ("index_make", [octets, size, pointer, size]),
+            ("table_index_make", [octets, size, pointer, size]),
             ("index_contains_column", searched),
             ("index_find_column", searched),
             ("ranges_find_column", [octets, size, *searched]),

@@ -124,7 +124,7 @@ def index(version: int, blocks: bytes) -> bytes:
         return b""
     answered(library.ipnetwork_index_size(count, ctypes.byref(length)))
     room = (ctypes.c_uint32 * length.value)()
-    answered(getattr(library, f"ipnetwork_v{version}_index_make")(blocks, count, room, length))
+    answered(getattr(library, f"ipnetwork_v{version}_table_index_make")(blocks, count, room, length))
     return bytes(room)
 
 
