@@ -9,7 +9,7 @@ if here "Python: by ctypes" "$python"; then
     shared_library "$out/libipnetwork_c.so"
     # Without the extension, these are all tests of the package.
     IPNETWORK_LIBRARY="$PWD/$out/libipnetwork_c.so" python_tests python "$([ $native = yes ] && echo $((rows / 10)) || echo "$rows")"
-    (cd python && "$python" told.py test_wheel)
+    (cd python && "$python" -m unittest -q test_wheel)
     # By ctypes it says so, unless that was asked for.
     rm -rf "$out/package"
     mkdir "$out/package"
