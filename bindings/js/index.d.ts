@@ -218,8 +218,11 @@ export interface Mapped {
    * that of the IPv4 address, and if there is none that of the IPv6 address; and so for a network
    * within ::ffff:0:0/96.
    *
+   * Operations and comparisons count both forms, and of two sets both are taken to have the option
+   * if one has it; `equals` is about the networks alone. An IPv4-mapped address is a member of a
+   * difference or a complement as long as its IPv4 address is.
+   *
    * A server that listens on IPv6 sees its IPv4 peers as such addresses, as ::ffff:10.1.9.32. The
-   * networks of a list stay as they are, and so do those that `union` and the like make. The
    * default is false.
    */
   readonly mapped?: boolean;
@@ -327,7 +330,7 @@ export class AddressSet implements Iterable<Ipv4Network | Ipv6Network> {
   symmetricDifference(other: AddressSet): AddressSet;
   /** All addresses of both families that are not in the set. */
   complement(): AddressSet;
-  /** Whether both have the same addresses, whatever their options are. */
+  /** Whether the networks of both have the same addresses, whatever the options are. */
   equals(other: AddressSet): boolean;
   /** The number of addresses. */
   readonly size: bigint;

@@ -165,6 +165,7 @@ def longest(database, rng):
         database.executemany("INSERT INTO nets VALUES (?)", ((str(network),) for network in made))
         asked = [of(near(rng, width, start)) for _ in range(300)]
         asked += [end for network in made for end in (network.network_address, network.broadcast_address)]
+        found = []
         for address in asked:
             having = [(network.prefixlen, row) for row, network in enumerate(made, 1) if address in network]
             prefix, row = max(having, default=(None, None))
@@ -174,6 +175,20 @@ def longest(database, rng):
                 own = own[0], str(kind(own[1]).network_address), own[2]
             if own != wanted:
                 differ("the longest network", address, own, wanted)
+            if wanted:
+                found.append((str(address), row, prefix))
+        database.execute("CREATE TEMP TABLE IF NOT EXISTS asked(address TEXT)")
+        database.execute("DELETE FROM asked")
+        database.executemany("INSERT INTO asked VALUES (?)", ((str(address),) for address in asked))
+        either = (
+            "SELECT address, number, prefix FROM asked JOIN cidr_longest('main.nets', address)"
+            " WHERE number = ?1 OR prefix = ?2 ORDER BY asked.rowid"
+        )
+        for _, number_of, prefix_of in rng.sample(found, 20):
+            wanted = [each for each in found if each[1] == number_of or each[2] == prefix_of]
+            own = database.execute(either, (number_of, prefix_of)).fetchall()
+            if own != wanted:
+                differ("a number or a prefix length", (number_of, prefix_of), own, wanted)
 
 
 def main():

@@ -30,10 +30,8 @@ export function packedNetworks(value, name) {
   return KINDS.map((kind) => rows.packedOf(kind));
 }
 
-/* Functions with access to the class: the lists of a set, or undefined for any other value; and
- * whether it is mapped. */
+/* A function with access to the class: the lists of a set, or undefined for any other value. */
 let listsOf;
-let isMapped;
 
 /**
  * A set of addresses of both families, kept as the fewest networks with exactly these addresses. It
@@ -47,7 +45,6 @@ export class AddressSet {
   #freed = false;
 
   static {
-    isMapped = (set) => set.#mapped;
     listsOf = (value) => (
       typeof value === 'object' && value !== null && #lists in value ? value.#used() : undefined
     );
@@ -114,10 +111,10 @@ export class AddressSet {
   }
 
   complement() {
-    const all = KINDS.map((kind) => new Blocks(kind, new Uint8Array(kind.struct)));
-    return new AddressSet(MADE, this.#mapped, this.#used().map(
-      (list, which) => combined(all[which], list, 'difference'),
-    ));
+    return new AddressSet(MADE, this.#mapped, KINDS.map((kind) => {
+      const all = new Blocks(kind, new Uint8Array(kind.struct));
+      return combined(all, this.#listOf(kind.family), 'difference');
+    }));
   }
 
   equals(other) {
@@ -188,21 +185,28 @@ export class AddressSet {
     return bytes[ANSWER] === 1;
   }
 
-  /** The list of a family; for IPv6, in a mapped set, with the IPv4-mapped addresses of IPv4. */
-  #listOf(family) {
+  /** The list of a family; for IPv6, if `mapped`, with the IPv4-mapped addresses of IPv4. */
+  #listOf(family, mapped = this.#mapped) {
     const [fours, sixes] = this.#used();
     if (family === 4) return fours;
-    if (!this.#mapped) return sixes;
+    if (!mapped) return sixes;
     this.#both ??= withMapped(fours, sixes);
     return this.#both;
   }
 
   #combined(other, name) {
-    const lists = requireLists(other);
-    return new AddressSet(
-      MADE, this.#mapped || isMapped(other),
-      this.#used().map((list, which) => combined(list, lists[which], name)),
+    const [, otherSixes] = requireLists(other);
+    const mapped = this.#mapped || other.#mapped;
+    /* Whether the IPv6 addresses of the other set are those that it has in either form. */
+    const either = mapped && name !== 'union';
+    const lists = this.#used().map(
+      (list) => combined(list, other.#listOf(list.kind.family, either), name),
     );
+    if (either && name === 'intersection') {
+      const turned = combined(this.#listOf(6, true), otherSixes, name);
+      lists[1] = combined(lists[1], turned, 'union');
+    }
+    return new AddressSet(MADE, mapped, lists);
   }
 }
 

@@ -182,6 +182,86 @@ test('random sets and tables, by the sentence of the page', () => {
   assert.ok(Math.min(...seen.flat()) > 1000, `${seen}`);
 });
 
+test('what is denied in one form is taken away in both', () => {
+  const everything = new AddressSet(['0.0.0.0/0', '::/0']);
+  const denied = new AddressSet(['10.0.0.0/8'], { mapped: true });
+  const peer = '::ffff:10.0.0.1';
+  assert.ok(denied.contains(peer));
+  for (const allowed of [everything.difference(denied), denied.complement()]) {
+    assert.ok(allowed.mapped && !allowed.contains(peer) && !allowed.covers(peer));
+    assert.deepEqual([...allowed.containsColumn([peer, '::ffff:11.0.0.1', '::1'])], [0, 1, 1]);
+    assert.ok(![...allowed].some((network) => network.contains(peer)));
+  }
+  assert.deepEqual(denied.intersection(new AddressSet(['::/0'])).toJSON(), [
+    '::ffff:10.0.0.0/104',
+  ]);
+  assert.deepEqual(new AddressSet().union(denied).toJSON(), ['10.0.0.0/8']);
+  const six = new AddressSet(['::ffff:10.0.0.0/104']);
+  assert.equal(six.difference(denied).size, 0n);
+  assert.ok(!six.equals(denied) && !denied.equals(denied.union(six)));
+  /* Without the option the forms are two addresses. */
+  const plain = new AddressSet(['10.0.0.0/8']);
+  assert.ok(everything.difference(plain).contains(peer) && plain.complement().contains(peer));
+  assert.deepEqual(six.difference(plain).toJSON(), six.toJSON());
+  assert.equal(plain.intersection(six).size, 0n);
+});
+
+/* For each operation whether an address is in the result, by whether it is in the sets. */
+const OPERATIONS = {
+  union: (one, other) => one || other,
+  intersection: (one, other) => one && other,
+  difference: (one, other) => one && !other,
+  symmetricDifference: (one, other) => one !== other,
+  complement: (one) => !one,
+};
+
+/** Compares the operations on two sets, given as networks, with arithmetic on their numbers. */
+function compareOperations(networks, options, seen) {
+  const sets = networks.map(
+    (each, which) => new AddressSet(each.map(({ text }) => text), { mapped: options[which] }),
+  );
+  const all = networks.flat();
+  const sixes = [...all.map(asSix), ...all].flatMap(({ first, last }) => [
+    first - 1n, first, (first + last) >> 1n, last, last + 1n,
+  ]).filter((number) => number >= 0n && number < 1n << 128n);
+  const fours = sixes.filter((number) => number >> 32n === 0xffffn)
+    .map((number) => number - MAPPED_FIRST);
+  const isMember = (family, number) => networks.map(
+    (each) => each.some((network) => network.family === family && has(network, number)),
+  );
+  for (const [name, rule] of Object.entries(OPERATIONS)) {
+    const made = sets[0][name](sets[1]);
+    const mapped = options[0] || (name !== 'complement' && options[1]);
+    assert.equal(made.mapped, mapped);
+    const wanted = fours.map((number) => Number(rule(...isMember(4, number))));
+    wanted.push(...sixes.map((number) => {
+      const six = isMember(6, number);
+      if (!mapped || number >> 32n !== 0xffffn) return Number(rule(...six));
+      const four = isMember(4, number - MAPPED_FIRST);
+      const either = six.map((member, which) => member || four[which]);
+      return Number(rule(...either) || rule(...four));
+    }));
+    const texts = [
+      ...fours.map((number) => textOf(4, number)), ...sixes.map((number) => textOf(6, number)),
+    ];
+    const asked = `${name} of ${sets.map((set) => `${[...set]} ${set.mapped}`).join(' and ')}`;
+    assert.deepEqual([...made.containsColumn(texts)], wanted, asked);
+    assert.deepEqual(texts.map((text) => Number(made.contains(text))), wanted, asked);
+    assert.deepEqual(texts.map((text) => Number(made.covers(text))), wanted, asked);
+    wanted.forEach((answer) => { seen[name][answer] += 1; });
+  }
+}
+
+test('random operations, by arithmetic on the numbers of addresses', () => {
+  const seen = Object.fromEntries(Object.keys(OPERATIONS).map((name) => [name, [0, 0]]));
+  const some = () => Array.from({ length: random.below(5) }, someNetwork);
+  for (let round = 0; round < 1000; round += 1) {
+    compareOperations([some(), some()], [round % 2 === 1, round % 4 > 1], seen);
+  }
+  const least = Math.min(...Object.values(seen).flat());
+  assert.ok(least > 1000, JSON.stringify(seen));
+});
+
 test('what is made of a mapped set is mapped', () => {
   const list = ['127.0.0.0/8', '10.0.0.0/8', '::1'];
   const [plain, set] = [new AddressSet(list), new AddressSet(list, { mapped: true })];
