@@ -1,9 +1,10 @@
 import {
   indexSize, v4Aggregate, v4Difference, v4IndexContainsColumn, v4IndexFind, v4IndexMake,
   v4Intersection, v4Network, v4PrintColumn, v4RangeToBlocks, v4RangesFind, v4RangesFindColumn,
-  v4RangesMake, v4TableMake, v4Union, v6Aggregate, v6Difference, v6IndexContainsColumn,
-  v6IndexFind, v6IndexMake, v6Intersection, v6Network, v6PrintColumn, v6RangeToBlocks,
-  v6RangesFind, v6RangesFindColumn, v6RangesMake, v6TableMake, v6Union,
+  v4RangesMake, v4TableIndexMake, v4TableMake, v4Union, v6Aggregate, v6Difference,
+  v6IndexContainsColumn, v6IndexFind, v6IndexMake, v6Intersection, v6Network, v6PrintColumn,
+  v6RangeToBlocks, v6RangesFind, v6RangesFindColumn, v6RangesMake, v6TableIndexMake, v6TableMake,
+  v6Union,
 } from './library.mjs';
 import { ANSWER, OTHER, bytes, giveBack, take, view } from './memory.mjs';
 import { Standing } from './standing.mjs';
@@ -19,7 +20,8 @@ const FOUR = {
   first: v4Network, aggregate: v4Aggregate, union: v4Union, intersection: v4Intersection,
   difference: v4Difference, indexMake: v4IndexMake, indexFind: v4IndexFind,
   indexContainsColumn: v4IndexContainsColumn, printColumn: v4PrintColumn,
-  rangeToBlocks: v4RangeToBlocks, tableMake: v4TableMake, rangesMake: v4RangesMake,
+  rangeToBlocks: v4RangeToBlocks, tableMake: v4TableMake, tableIndexMake: v4TableIndexMake,
+  rangesMake: v4RangesMake,
   rangesFind: v4RangesFind, rangesFindColumn: v4RangesFindColumn,
 };
 const SIX = {
@@ -27,7 +29,8 @@ const SIX = {
   first: v6Network, aggregate: v6Aggregate, union: v6Union, intersection: v6Intersection,
   difference: v6Difference, indexMake: v6IndexMake, indexFind: v6IndexFind,
   indexContainsColumn: v6IndexContainsColumn, printColumn: v6PrintColumn,
-  rangeToBlocks: v6RangeToBlocks, tableMake: v6TableMake, rangesMake: v6RangesMake,
+  rangeToBlocks: v6RangeToBlocks, tableMake: v6TableMake, tableIndexMake: v6TableIndexMake,
+  rangesMake: v6RangesMake,
   rangesFind: v6RangesFind, rangesFindColumn: v6RangesFindColumn,
 };
 export const KINDS = [FOUR, SIX];

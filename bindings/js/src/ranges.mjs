@@ -33,7 +33,7 @@ class Ranges extends Standing {
     const ranges = index + 4 * this.indexCount;
     bytes.set(this.beside, place);
     bytes.set(this.ranges, ranges);
-    never(this.kind.indexMake(ranges, 0, this.count, 0, index, 0, this.indexCount, 0));
+    never(this.kind.tableIndexMake(ranges, 0, this.count, 0, index, 0, this.indexCount, 0));
   }
 
   /** The place of the longest block with the address at this place, or -1. */
@@ -95,7 +95,7 @@ export function tableOf(kind, packed) {
     const ranges = blocks + struct * count;
     bytes.set(packed, networks);
     never(kind.tableMake(networks, 0, count, 0, blocks, 0, count, 0, numbers, 0, count, 0));
-    never(kind.indexMake(blocks, 0, count, 0, index, 0, indexCount, 0));
+    never(kind.tableIndexMake(blocks, 0, count, 0, index, 0, indexCount, 0));
     never(kind.rangesMake(
       blocks, 0, count, 0, index, 0, indexCount, 0, ranges, 0, 2 * count, 0, places, 0, 2 * count, 0, ANSWER, 0,
     ));
