@@ -49,9 +49,8 @@ def _load() -> ctypes.CDLL:
         )
     library = ctypes.CDLL(path)
     pointer, octets, size, word = ctypes.c_void_p, ctypes.c_char_p, ctypes.c_size_t, ctypes.c_uint32
-    for name in ("abi_version", "abi_minor_version"):
-        _declare(library, name, [])
-    if library.ipnetwork_abi_version() != 3 or library.ipnetwork_abi_minor_version() < 1:
+    _declare(library, "abi_version", [])
+    if library.ipnetwork_abi_version() != 4:
         raise ImportError(
             f"{path} is of another version than this module: build it again, as "
             "bindings/README.md says"

@@ -317,7 +317,7 @@ static int import_into(State *state) {
 static int execute(PyObject *module) {
     State *state = PyModule_GetState(module);
     if (ipnetwork_abi_version() != IPNETWORK_ABI_VERSION
-        || ipnetwork_abi_minor_version() < IPNETWORK_ABI_MINOR_VERSION) {
+        || (int)ipnetwork_abi_minor_version() < IPNETWORK_ABI_MINOR_VERSION) {
         PyErr_SetString(PyExc_ImportError, "the library is of another version than this module");
         return -1;
     }
