@@ -38,7 +38,7 @@ class Build(unittest.TestCase):
     @unittest.skipUnless(shutil.which("cc"), "there is no cc")
     @unittest.skipUnless(sys.platform == "linux", "the library has another name")
     def test_another_version_is_refused(self):
-        for version, minor in ((2, 9), (3, 0), (4, 1)):
+        for version, minor in ((2, 9), (3, 1), (5, 0)):
             with self.subTest((version, minor)), tempfile.TemporaryDirectory() as folder:
                 source, library = (pathlib.Path(folder, name) for name in ("other.c", "other.so"))
                 source.write_text(OTHER % (version, minor))
