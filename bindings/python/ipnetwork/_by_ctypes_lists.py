@@ -236,10 +236,10 @@ def _no_text(row: object, missing: object) -> None:
 
 
 def _may_be_packed(row: bytes) -> bool:
-    """Whether bytes may be a packed address, of which NumPy drops the zeros at the end: they are
-    not the text of an address, and have its length of 4 or 16, or are shorter and not printable
-    ASCII."""
-    if len(row) > 16 or (len(row) not in (4, 16) and row.isascii() and row.decode().isprintable()):
+    """Whether bytes may be a packed address, of which NumPy drops the zeros at the end, or a row of
+    17 bytes with one: they are not the text of an address, and have its length of 4 or 16, or at
+    most 17 and are not printable ASCII."""
+    if len(row) > 17 or (len(row) not in (4, 16) and row.isascii() and row.decode().isprintable()):
         return False
     held = (ctypes.c_ubyte * ADDRESS)()
     return library.ipnetwork_address_read(row, len(row), ctypes.byref(held)) != 0

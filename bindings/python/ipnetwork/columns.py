@@ -28,7 +28,7 @@ ipnetwork.AddressError: row 1: '10.1.9.32:443' is no address; ...
 
 Any other row is a TypeError that gives its number and its type. A ``str`` or a table instead of a
 column is a TypeError too, and so are ``bytes`` that are not the text of an address and may be a
-packed one: of 4 or 16 bytes, or shorter and not printable ASCII; in an array of ``S4`` or ``S16``,
+packed one: of 4 or 16 bytes, or at most 17 and not printable ASCII; in an array of ``S4`` or ``S16``,
 of which NumPy drops the zeros at the end of a row, all that are not the text of an address. A
 column in Arrow's layout needs none of this: its buffers go to ``ipnetwork.read_address_column`` as
 they are.
@@ -204,7 +204,10 @@ def _addresses(
     check_invalid(invalid)
     if given.shape[1] != _ROW:
         raise TypeError(f"addresses of read_addresses have {_ROW} bytes each, not {given.shape[1]}")
-    return numpy.ascontiguousarray(given).data
+    rows, hidden = _array_of(given)
+    if hidden.any():
+        rows = numpy.where(_of_each_row(hidden)[:, None], numpy.uint8(0), rows)
+    return numpy.ascontiguousarray(rows).data
 
 
 @overload
