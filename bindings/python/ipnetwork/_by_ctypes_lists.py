@@ -12,7 +12,7 @@ from collections.abc import Iterator
 from typing import TYPE_CHECKING, Union
 
 from ._by_ctypes_library import ADDRESS, answered, flat, library, unmapped_octets
-from ._errors import error
+from ._errors import error, shown
 
 if TYPE_CHECKING:
     from _typeshed import ReadableBuffer
@@ -351,7 +351,7 @@ def print_rows(kind: int, rows: ReadableBuffer, bits: int) -> tuple[bytearray, b
     structs, and their offsets, of 32 or 64 bits."""
     bits = operator.index(bits)
     if bits not in (32, 64):
-        raise ValueError(f"offset_bits is 32 or 64, not {bits}")
+        raise ValueError(f"offset_bits is 32 or 64, not {shown(bits)}")
     given = bytes(flat(rows))
     step, longest = {4: (5, 18), 6: (17, 43), 0: (ADDRESS, 39)}[kind]
     count, part = divmod(len(given), step)

@@ -135,7 +135,7 @@ def _of_numbers(
         fits, width = array.shape[1:] == (2,) and array.dtype.itemsize == 8, 16
         wanted = "whole numbers of 64 bits, two in each row"
     if array.dtype.kind not in "iu" or not fits:
-        given_is = f"one of {array.dtype} and of shape {array.shape}"
+        given_is = f"one of {array.dtype!s:.60} and of shape {array.shape}"
         raise TypeError(f"numbers={numbers} takes an array of {wanted}, not {given_is}")
     absent = _of_each_row(hidden)
     if missing is not None:
