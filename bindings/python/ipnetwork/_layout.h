@@ -14,13 +14,12 @@ static int is_printable(const char *bytes) {
 
 /* Whether these are at most 17 bytes, and one of them is not printable ASCII. */
 static int is_short_and_no_text(const char *bytes, Py_ssize_t length) {
-    char padded[8] = "       ";
+    char padded[9] = "        ";
     if (length > 17) return 0;
     if (length >= 8)
         return !is_printable(bytes) || !is_printable(bytes + length - 8)
                || (length == 17 && !is_printable(bytes + 8));
     for (Py_ssize_t at = 0; at < length; at++) padded[at] = bytes[at];
-    padded[7] = ' ';
     return !is_printable(padded);
 }
 

@@ -17,7 +17,8 @@ A text that names no address, such as one with a space, a port or a zone, is an 
 is a ValueError, with the number of the row, counted from 0, and the text. With ``invalid=False``
 such a row is like one without a text: no member, and found in no table. With ``invalid="null"`` the
 answers for rows without an address, missing or not, are null: the result is a masked array, or for
-a Series of pandas a Series of a nullable type, with its index.
+a Series of pandas a Series of a nullable type, with its index. As an index NumPy takes a masked
+array without its mask: use ``answers.filled(True)`` if the members are those that are refused.
 
 >>> is_member(["10.1.9.32", "10.1.9.32:443"], tens)  # doctest: +ELLIPSIS
 Traceback (most recent call last):
