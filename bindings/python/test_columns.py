@@ -376,11 +376,25 @@ class Columns(unittest.TestCase):
                     for call in (*list(self.questions(invalid=invalid))[:5], lambda rows: read_addresses(rows, invalid=invalid)):
                         with self.subTest((column, invalid)), self.assertRaisesRegex(TypeError, "row [01]: .* packed address"):
                             call(column)
+        # So are rows of 17 bytes, as read_address_column gives them.
+        rows = read_addresses(["10.0.0.1", "2001:db8::1", None])[0]
+        for column in (rows.view("V17").ravel(), [bytes(row) for row in rows]):
+            with self.assertRaisesRegex(TypeError, "row 0: .* packed address"):
+                is_member(column, AddressSet([ip_network("::/0")]), invalid=False)
         # Texts of these lengths are texts.
         which = AddressSet([ip_network("::/0"), ip_network("0.0.0.0/0")])
-        for texts in ([b"::1", b"::"], [b"10.1.2.3", b"2001:db8::12:345"], [b"1.2.3.4", b"255.255.255.255"]):
+        for texts in ([b"::1", b"::"], [b"10.1.2.3", b"2001:db8::12:345"], [b"1.2.3.4", b"255.255.255.255"], [b"2001:db8:1::1:2:3", b"::2"]):
             self.assertEqual(is_member(numpy.array(texts), which).tolist(), [True, True])
         self.assertEqual(is_member(numpy.array([b"10.1.2.3", b"garbage", b""]), which, invalid=False).tolist(), [True, False, False])
+
+    def test_masked_addresses_are_missing(self):
+        rows = read_addresses(["10.0.0.1", "10.0.0.2", "8.8.8.8"])[0]
+        masked = numpy.ma.masked_array(rows, numpy.arange(3 * 17).reshape(3, 17) == 17)  # a byte of the second
+        tens = AddressSet([ip_network("10.0.0.0/8")])
+        self.assertEqual(is_member(masked, tens).tolist(), [True, False, False])
+        self.assertEqual(is_member(masked, tens, invalid="null").tolist(), [True, None, False])
+        self.assertEqual(find(masked, Table(tens)).tolist(), [0, -1, -1])
+        self.assertEqual(is_member(numpy.ma.masked_array(rows), tens).tolist(), [True, True, False])
 
     def test_zones(self):
         link = AddressSet([ip_network("fe80::/10")])

@@ -197,6 +197,23 @@ class EitherForm(unittest.TestCase):
             builder.difference_update(lists[0][:3])
             self.assertEqual(builder.build(), (one | other) - lists[0][:3])
 
+    def test_the_option_is_kept(self):
+        peer, denied = IPv6Address("::ffff:10.0.0.1"), AddressSet(["10.0.0.0/8"], mapped=True)
+        everything = ["0.0.0.0/0", "::/0"]
+        for start in ([], ["10.0.0.0/9"]):
+            builder = AddressSetBuilder(everything)
+            builder.difference_update(start)
+            builder.difference_update(denied)
+            built = builder.build()
+            self.assertFalse(peer in built)
+            self.assertEqual(built, AddressSet(everything) - denied)
+        builder = AddressSetBuilder()
+        builder.update(denied)
+        table = PrefixTable({ip_network("10.0.0.0/8"): "deny"}, mapped=True)
+        for each in (builder.build(), AddressSet(table), AddressSet() | table, AddressSetBuilder(table).build()):
+            self.assertTrue(peer in each)
+        self.assertFalse(peer in AddressSet(everything) - table)
+
     def test_first_free(self):
         either = AddressSet(["10.0.0.0/9", "::ffff:10.128.0.0/106"], mapped=True)
         within = ip_network("::ffff:10.0.0.0/104")

@@ -1,5 +1,6 @@
 """No message of the package has more than 60 bytes of a text that is refused."""
 
+import ipaddress
 import unittest
 
 import ipnetwork
@@ -25,6 +26,10 @@ CALLS = {
     "key": lambda text: PrefixTable().__setitem__(text, 1),
     "longest": PrefixTable().longest,
     "subnets": lambda text: NETWORK.subnets(new_prefix=text),
+    "subnet_of": NETWORK.subnet_of,
+    "supernet_of": NETWORK.supernet_of,
+    "overlaps": NETWORK.overlaps,
+    "address_exclude": NETWORK.address_exclude,
     "joined": lambda text: PrefixTable({NETWORK: 1}).join([text]),
     "asked of a set": lambda text: ONE.contains_column([text]),
     "asked of a table": lambda text: Table([NETWORK]).find_column([text]),
@@ -51,6 +56,17 @@ class Messages(unittest.TestCase):
                 said = str(raised.exception)
                 self.assertLessEqual(said.count(piece), most + 5, said)
                 self.assertLess(len(said), 500)
+
+    def test_long_zones_and_numbers(self):
+        zoned = ipaddress.IPv6Network("fe80::%" + "x" * MANY + "/64")
+        for call in (Table([NETWORK]).find, NETWORK.overlaps, lambda row: ONE.contains_column([row])):
+            with self.subTest(call), self.assertRaisesRegex(TypeError, "IPv6Network.*x[.][.][.] ") as raised:
+                call(zoned)
+            self.assertLess(len(str(raised.exception)), 200)
+        for call in (NETWORK.subnets, NETWORK.supernet):
+            with self.subTest(call), self.assertRaisesRegex(ValueError, "0[.][.][.] is no prefix length") as raised:
+                call(new_prefix=10**MANY)
+            self.assertLess(len(str(raised.exception)), 200)
 
     def test_the_mark(self):
         for text in ("x" * 60, "\u00e9" * 30):

@@ -15,7 +15,7 @@ typedef struct {
     PyTypeObject *network_type, *v4_type, *v6_type;    /* the types of this module */
     PyObject *v4_class, *v6_class;                     /* the classes given to `register` */
     PyObject *v4_address, *v6_address, *base_network;  /* those of ipaddress */
-    PyObject *make_error, *map_of, *range_of;
+    PyObject *make_error, *shown, *map_of, *range_of;
     PyObject *name_ip, *name_scope, *sixty_four, *zero, *one;
     PyObject *masks[2][129];  /* those that were asked for, by prefix length */
     int plain;                /* whether an address of ipaddress is only its number: see `is_plain` */
@@ -55,6 +55,13 @@ static void raise_fault(State *state, ipnetwork_fault fault, PyObject *given) {
         PyErr_SetObject((PyObject *)Py_TYPE(error), error);
         Py_DECREF(error);
     }
+}
+
+/* Raises TypeError with these words, which have a %U for what `_errors.shown` shows of the given object. */
+static void raise_shown(State *state, const char *words, PyObject *given) {
+    PyObject *shown = PyObject_CallFunctionObjArgs(state->shown, given, NULL);
+    if (shown != NULL) PyErr_Format(PyExc_TypeError, words, shown);
+    Py_XDECREF(shown);
 }
 
 /* Checks that there is no fault: a question about a network made by the library has none. */

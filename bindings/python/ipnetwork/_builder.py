@@ -67,10 +67,11 @@ class AddressSetBuilder:
     further. On average a change takes a few microseconds, whatever the size of the set; ``build``
     takes time in proportion to it. Several threads may change one builder.
 
-    The option ``mapped`` is that of the sets that it builds. With ``mapped``, what is said of
-    either form counts: an IPv4-mapped IPv6 address is a member if the IPv4 address, or the IPv6
-    address as it stands, is one; its longest network is that of the IPv4 address, and if there is
-    none that of the IPv6 address; and so for a network within ::ffff:0:0/96.
+    The option ``mapped`` is that of the sets that it builds; ``update`` and ``difference_update``
+    with a set that has it add it. With ``mapped``, what is said of either form counts: an
+    IPv4-mapped IPv6 address is a member if the IPv4 address, or the IPv6 address as it stands, is
+    one; its longest network is that of the IPv4 address, and if there is none that of the IPv6
+    address; and so for a network within ::ffff:0:0/96.
 
     >>> builder = AddressSetBuilder([ip_network("10.0.0.0/8")])
     >>> builder.discard(ip_network("10.0.0.0/9"))
@@ -109,13 +110,24 @@ class AddressSetBuilder:
 
     def update(self, networks: Iterable[Given]) -> None:
         """Adds the addresses of networks, or of a set; of none if an element is no network."""
-        for network in AddressSet(networks):
+        for network in self._given(networks):
             self._take(True, network)
 
     def difference_update(self, networks: Iterable[Given]) -> None:
         """Removes the addresses of networks, or of a set; of none if an element is no network."""
-        for network in AddressSet(networks):
+        for network in self._given(networks):
             self._take(False, network)
+
+    def _given(self, networks: Iterable[Given]) -> AddressSet:
+        """The set of these networks. If it is mapped, so is the builder from now on."""
+        given = AddressSet(networks)
+        self._lock.acquire()
+        try:
+            if given.mapped and not self._made.mapped:
+                self._made = AddressSet(self.build(), mapped=True)
+        finally:
+            self._lock.release()
+        return given
 
     def build(self) -> AddressSet:
         """The addresses so far."""

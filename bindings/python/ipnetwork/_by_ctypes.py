@@ -44,6 +44,7 @@ from ._by_ctypes_networks import (
     register,
     subnet_at,
 )
+from ._errors import shown
 
 __all__ = [
     "V4",
@@ -159,7 +160,7 @@ def table_find(
     address = alone(address)
     if not isinstance(address, (IPv4Address, IPv6Address)):
         no_member(address)
-        raise TypeError(f"{address!r} has more than one address, and one is asked about")
+        raise TypeError(f"{shown(address)} has more than one address, and one is asked about")
     number = -1
     for form in (unmapped(address), address) if search[6] else (address,):
         lists = search[:3] if form.version == 4 else search[3:6]

@@ -12,7 +12,7 @@ from collections.abc import Iterator
 from typing import TYPE_CHECKING, Union
 
 from ._by_ctypes_library import ADDRESS, answered, flat, library, unmapped_octets
-from ._errors import error
+from ._errors import error, shown
 
 if TYPE_CHECKING:
     from _typeshed import ReadableBuffer
@@ -236,10 +236,10 @@ def _no_text(row: object, missing: object) -> None:
 
 
 def _may_be_packed(row: bytes) -> bool:
-    """Whether bytes may be a packed address, of which NumPy drops the zeros at the end: they are
-    not the text of an address, and have its length of 4 or 16, or are shorter and not printable
-    ASCII."""
-    if len(row) > 16 or (len(row) not in (4, 16) and row.isascii() and row.decode().isprintable()):
+    """Whether bytes may be a packed address, of which NumPy drops the zeros at the end, or a row of
+    17 bytes with one: they are not the text of an address, and have its length of 4 or 16, or at
+    most 17 and are not printable ASCII."""
+    if len(row) > 17 or (len(row) not in (4, 16) and row.isascii() and row.decode().isprintable()):
         return False
     held = (ctypes.c_ubyte * ADDRESS)()
     return library.ipnetwork_address_read(row, len(row), ctypes.byref(held)) != 0
@@ -351,7 +351,7 @@ def print_rows(kind: int, rows: ReadableBuffer, bits: int) -> tuple[bytearray, b
     structs, and their offsets, of 32 or 64 bits."""
     bits = operator.index(bits)
     if bits not in (32, 64):
-        raise ValueError(f"offset_bits is 32 or 64, not {bits}")
+        raise ValueError(f"offset_bits is 32 or 64, not {shown(bits)}")
     given = bytes(flat(rows))
     step, longest = {4: (5, 18), 6: (17, 43), 0: (ADDRESS, 39)}[kind]
     count, part = divmod(len(given), step)

@@ -18,7 +18,7 @@ from ._by_ctypes_addresses import no_address, type_name
 from ._by_ctypes_library import V4 as StructV4
 from ._by_ctypes_library import V6 as StructV6
 from ._by_ctypes_library import Either, answered, flat, library
-from ._errors import error
+from ._errors import error, shown
 
 if TYPE_CHECKING:
     from _typeshed import ReadableBuffer
@@ -204,9 +204,7 @@ class Network(Generic[Address]):
 
     def _of_this(self, other: Network[Address]) -> None:
         if not isinstance(other, Network) or other._width != self._width:
-            raise TypeError(
-                f"{self!r} and {other!r} are not networks of this package and of one family"
-            )
+            raise TypeError(f"{shown(other)} is no network of this package, or of another family")
 
     def subnet_of(self, other: Network[Address]) -> bool:
         """Whether each member of this network is a member of ``other``. Host bits make no

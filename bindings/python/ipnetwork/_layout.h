@@ -5,21 +5,29 @@
 #include "_addresses.h"
 
 /* Whether each of eight bytes is printable ASCII: the first to carry into its highest bit is one that is not. */
-static int is_printable(uint64_t eight) {
+static int is_printable(const char *bytes) {
     const uint64_t ones = UINT64_C(0x0101010101010101);
+    uint64_t eight;
+    memcpy(&eight, bytes, sizeof eight);
     return ((eight | (eight - ones * ' ') | (eight + ones)) & ones * 0x80) == 0;
 }
 
-/* Whether bytes may be a packed address, of which NumPy drops the zeros at the end: they are not the text of an
- * address, and have its length of 4 or 16, or are shorter and not printable ASCII. */
+/* Whether these are at most 17 bytes, and one of them is not printable ASCII. */
+static int is_short_and_no_text(const char *bytes, Py_ssize_t length) {
+    char padded[9] = "        ";
+    if (length > 17) return 0;
+    if (length >= 8)
+        return !is_printable(bytes) || !is_printable(bytes + length - 8)
+               || (length == 17 && !is_printable(bytes + 8));
+    for (Py_ssize_t at = 0; at < length; at++) padded[at] = bytes[at];
+    return !is_printable(padded);
+}
+
+/* Whether bytes may be a packed address, of which NumPy drops the zeros at the end, or a row of 17 bytes with one: they
+ * are not the text of an address, and have its length of 4 or 16, or at most 17 and are not printable ASCII. */
 static int may_be_packed(const char *bytes, Py_ssize_t length) {
     ipnetwork_address address;
-    char padded[17] = "                ";
-    uint64_t halves[2];
-    if (length > 16) return 0;
-    memcpy(padded, bytes, (size_t)length);
-    memcpy(halves, padded, sizeof halves);
-    return (length == 4 || length == 16 || !is_printable(halves[0]) || !is_printable(halves[1]))
+    return (length == 4 || length == 16 || is_short_and_no_text(bytes, length))
            && ipnetwork_address_read(bytes, (size_t)length, &address) != IPNETWORK_OK;
 }
 
@@ -27,14 +35,14 @@ static int may_be_packed(const char *bytes, Py_ssize_t length) {
 static const char NO_TEXT[] = "";
 
 /* The bytes of a row that is not a str: those of bytes, and NO_TEXT for None, NaN and the value for a missing
- * row; NULL for any other, and for bytes that may be a packed address if that is asked. */
-static const char *other_bytes(PyObject *row, PyObject *missing, int asked, Py_ssize_t *length) {
+ * row; NULL for any other, and for bytes that may be a packed address. */
+static const char *other_bytes(PyObject *row, PyObject *missing, Py_ssize_t *length) {
     char *bytes;
     *length = 0;
     if (row == Py_None || row == missing) return NO_TEXT;
     if (PyBytes_Check(row)) {
         if (PyBytes_AsStringAndSize(row, &bytes, length) < 0) return NULL;
-        return asked && may_be_packed(bytes, *length) ? NULL : bytes;
+        return may_be_packed(bytes, *length) ? NULL : bytes;
     }
     if (!PyFloat_Check(row)) return NULL;
     double number = PyFloat_AsDouble(row);
@@ -49,15 +57,15 @@ static const char *no_utf_8(void) {
 
 /* The bytes of a row, for a str in UTF-8; NULL if it cannot be encoded, or is neither a str nor what
  * `other_bytes` takes, with an exception only if memory runs out. */
-static inline const char *row_bytes(PyObject *row, PyObject *missing, int asked, Py_ssize_t *length) {
-    if (!PyUnicode_Check(row)) return other_bytes(row, missing, asked, length);
+static inline const char *row_bytes(PyObject *row, PyObject *missing, Py_ssize_t *length) {
+    if (!PyUnicode_Check(row)) return other_bytes(row, missing, length);
     const char *text = PyUnicode_AsUTF8AndSize(row, length);
     return text != NULL ? text : no_utf_8();
 }
 
-/* The offsets of the rows of a list, and the total length of the rows in bytes; NULL if `row_bytes` does not
- * take a row. The fault of a row without a text is written to *faults, and 0 for the others. */
-static PyObject *row_offsets(PyObject *rows, PyObject *missing, size_t *whole, char *faults) {
+/* The offsets of the rows of a list, and the bytes of each row, which live as long as the row; NULL if `row_bytes`
+ * does not take a row. The fault of a row without a text is written to *faults, and 0 for the others. */
+static PyObject *row_offsets(PyObject *rows, PyObject *missing, const char **texts, char *faults) {
     Py_ssize_t count = PyList_Size(rows), length;
     Py_ssize_t size = (count + 1) * (Py_ssize_t)sizeof(uint32_t);
     PyObject *offsets = PyByteArray_FromStringAndSize(NULL, size);
@@ -73,34 +81,40 @@ static PyObject *row_offsets(PyObject *rows, PyObject *missing, size_t *whole, c
         }
         memcpy(offset + (size_t)row * sizeof start, &start, sizeof start);
         if (row == count) break;
-        const char *bytes = row_bytes(PyList_GetItem(rows, row), missing, 1, &length);
-        if (bytes == NULL) return Py_DECREF(offsets), NULL;
-        faults[row] = bytes == NO_TEXT ? IPNETWORK_ADDRESS : IPNETWORK_OK;
+        texts[row] = row_bytes(PyList_GetItem(rows, row), missing, &length);
+        if (texts[row] == NULL) return Py_DECREF(offsets), NULL;
+        faults[row] = texts[row] == NO_TEXT ? IPNETWORK_ADDRESS : IPNETWORK_OK;
         end += (size_t)length;
     }
-    *whole = end;
     return offsets;
+}
+
+/* These bytes of `count` rows, one after the other, as long as the offsets say. */
+static PyObject *joined(const char **texts, Py_ssize_t count, const char *offsets) {
+    uint32_t start = 0, end;
+    memcpy(&end, offsets + (size_t)count * sizeof end, sizeof end);
+    PyObject *whole = PyBytes_FromStringAndSize(NULL, (Py_ssize_t)end);
+    if (whole == NULL) return NULL;
+    char *text = PyBytes_AsString(whole);
+    for (Py_ssize_t row = 0; row < count; row++, start = end) {
+        memcpy(&end, offsets + ((size_t)row + 1) * sizeof end, sizeof end);
+        memcpy(text + start, texts[row], end - start);
+    }
+    return whole;
 }
 
 /* The bytes of the rows, their offsets, and the faults; None if `row_bytes` does not take a row. */
 static PyObject *laid_out(PyObject *rows, PyObject *missing) {
-    size_t whole;
-    Py_ssize_t count = PyList_Size(rows), length;
-    PyObject *faults = PyByteArray_FromStringAndSize(NULL, count), *all = NULL;
-    if (faults == NULL) return NULL;
-    PyObject *offsets = row_offsets(rows, missing, &whole, PyByteArray_AsString(faults));
-    if (offsets == NULL) return Py_DECREF(faults), PyErr_Occurred() ? NULL : again(Py_None);
-    PyObject *texts = PyBytes_FromStringAndSize(NULL, (Py_ssize_t)whole);
-    if (texts != NULL) {
-        char *text = PyBytes_AsString(texts);
-        for (Py_ssize_t row = 0; row < count; row++) {
-            const char *bytes = row_bytes(PyList_GetItem(rows, row), missing, 0, &length);
-            memcpy(text, bytes, (size_t)length);
-            text += length;
-        }
-        all = PyTuple_Pack(3, texts, offsets, faults);
-    }
-    Py_XDECREF(texts), Py_DECREF(offsets), Py_DECREF(faults);
+    Py_ssize_t count = PyList_Size(rows);
+    PyObject *faults = PyByteArray_FromStringAndSize(NULL, count), *offsets = NULL, *whole = NULL, *all = NULL;
+    const char **texts = PyMem_Malloc((size_t)count * sizeof *texts);
+    if (texts == NULL) PyErr_NoMemory();
+    else if (faults != NULL) offsets = row_offsets(rows, missing, texts, PyByteArray_AsString(faults));
+    if (offsets != NULL) whole = joined(texts, count, PyByteArray_AsString(offsets));
+    if (whole != NULL) all = PyTuple_Pack(3, whole, offsets, faults);
+    else if (!PyErr_Occurred()) all = again(Py_None);
+    PyMem_Free(texts);
+    Py_XDECREF(whole), Py_XDECREF(offsets), Py_XDECREF(faults);
     return all;
 }
 

@@ -304,6 +304,7 @@ static int import_into(State *state) {
            && (state->v6_address = imported("ipaddress", "IPv6Address")) != NULL
            && (state->base_network = imported("ipaddress", "_BaseNetwork")) != NULL
            && (state->make_error = imported("ipnetwork._errors", "error")) != NULL
+           && (state->shown = imported("ipnetwork._errors", "shown")) != NULL
            && (state->map_of = imported("builtins", "map")) != NULL
            && (state->range_of = imported("builtins", "range")) != NULL
            && (state->name_ip = PyUnicode_InternFromString("_ip")) != NULL
@@ -338,7 +339,7 @@ static int execute(PyObject *module) {
 /* The objects in a module's state, except the masks. */
 #define EACH_KEPT(DO)                                                                         \
     DO(network_type) DO(v4_type) DO(v6_type) DO(v4_class) DO(v6_class) DO(v4_address)         \
-    DO(v6_address) DO(base_network) DO(make_error) DO(map_of) DO(range_of)                    \
+    DO(v6_address) DO(base_network) DO(make_error) DO(shown) DO(map_of) DO(range_of)          \
     DO(name_ip) DO(name_scope) DO(sixty_four) DO(zero) DO(one)
 
 static int traverse(PyObject *module, visitproc visit, void *arg) {

@@ -270,7 +270,7 @@ static Network *another(PyObject *self, PyObject *other, int same) {
     if (PyObject_TypeCheck(other, ((Network *)self)->state->network_type)
         && (!same || ((Network *)other)->held.family == ((Network *)self)->held.family))
         return (Network *)other;
-    PyErr_Format(PyExc_TypeError, "%R and %R are not networks of this package and of one family", self, other);
+    raise_shown(((Network *)self)->state, "%U is no network of this package, or of another family", other);
     return NULL;
 }
 

@@ -121,7 +121,7 @@ class _Network(_Base[Address]):
     def _longer(self, prefix: int) -> int:
         """This prefix length, if networks within this one may have it; else ValueError."""
         if not self.prefixlen <= prefix <= self.max_prefixlen:
-            raise ValueError(f"{prefix} is no prefix length of subnets of {self!r}")
+            raise ValueError(f"{shown(prefix)} is no prefix length of subnets of {self!r}")
         return prefix
 
     def supernet(
@@ -136,7 +136,7 @@ class _Network(_Base[Address]):
         """
         prefix = self.prefixlen and self._prefix(-1, prefixlen_diff, new_prefix)
         if not 0 <= prefix <= self.prefixlen:
-            raise ValueError(f"{prefix} is no prefix length of a supernet of {self!r}")
+            raise ValueError(f"{shown(prefix)} is no prefix length of a supernet of {self!r}")
         wider = core.of_packed(type(self), self._row[:-1], prefix)
         return core.of_rows(type(self), core.block_row(wider))[0]
 

@@ -338,8 +338,8 @@ class PrefixTable(Joins[Value], MutableMapping[Either, Value]):
 
     def _each(self, addresses: ReadableBuffer) -> Iterator[Union[tuple[bytes, Value], None]]:
         """The result for each row of a column, as ``read_address_column`` returns it."""
-        _NONE.find_column(addresses)  # ValueError of rows that are no addresses
         rows = bytes(addresses)
+        _NONE.find_column(rows)  # ValueError of rows that are no addresses
         for at in range(0, len(rows), 17):
             packed = rows[at : at + rows[at + 16]]
             yield self._found(ip_address(packed)) if packed else None

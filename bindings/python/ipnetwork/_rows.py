@@ -106,7 +106,7 @@ def _text(number: int, row: object, missing: tuple[object, ...]) -> Union[str, b
         network: Any = row
         if network.num_addresses == 1:
             return str(network.network_address).partition("%")[0]
-        raise TypeError(f"row {number}: {network!r} has more than one address")
+        raise TypeError(f"row {number}: {shown(row)} has more than one address")
     raise TypeError(
         f"row {number}: {type(row).__name__} is neither a text nor an address of ipaddress nor None"
         + (": numbers are taken by the keyword numbers" if isinstance(row, Real) else "")

@@ -425,7 +425,8 @@ def _unpickled(kind: type[AddressSet], fours: bytes, sixes: bytes, mapped: bool)
 
 
 def _is_mapped(networks: Iterable[Given]) -> bool:
-    return isinstance(networks, AddressSet) and networks._mapped
+    """Whether these are of a set or a table with the option."""
+    return getattr(networks, "mapped", False) is True
 
 
 def _follows(address: EitherAddress, last: EitherAddress) -> bool:

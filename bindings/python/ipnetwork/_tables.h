@@ -124,7 +124,7 @@ static PyObject *table_find(PyObject *module, PyObject *arguments) {
     if (!PyArg_UnpackTuple(arguments, "table_find", 2, 2, &search, &given) || !parse_table(search, &table)) return NULL;
     int kind = alone_of(state, given, &address);
     if (kind == NO_ADDRESS && no_member(state, given, kind) == 0)
-        PyErr_Format(PyExc_TypeError, "%R has more than one address, and one is asked about", given);
+        raise_shown(state, "%U has more than one address, and one is asked about", given);
     if (kind != IS_ADDRESS) return NULL;
     return answered(table_has(&table, &address, &number)) ? PyLong_FromLongLong(number) : NULL;
 }

@@ -17,7 +17,8 @@ A text that names no address, such as one with a space, a port or a zone, is an 
 is a ValueError, with the number of the row, counted from 0, and the text. With ``invalid=False``
 such a row is like one without a text: no member, and found in no table. With ``invalid="null"`` the
 answers for rows without an address, missing or not, are null: the result is a masked array, or for
-a Series of pandas a Series of a nullable type, with its index.
+a Series of pandas a Series of a nullable type, with its index. As an index NumPy takes a masked
+array without its mask: use ``answers.filled(True)`` if the members are those that are refused.
 
 >>> is_member(["10.1.9.32", "10.1.9.32:443"], tens)  # doctest: +ELLIPSIS
 Traceback (most recent call last):
@@ -28,7 +29,7 @@ ipnetwork.AddressError: row 1: '10.1.9.32:443' is no address; ...
 
 Any other row is a TypeError that gives its number and its type. A ``str`` or a table instead of a
 column is a TypeError too, and so are ``bytes`` that are not the text of an address and may be a
-packed one: of 4 or 16 bytes, or shorter and not printable ASCII; in an array of ``S4`` or ``S16``,
+packed one: of 4 or 16 bytes, or at most 17 and not printable ASCII; in an array of ``S4`` or ``S16``,
 of which NumPy drops the zeros at the end of a row, all that are not the text of an address. A
 column in Arrow's layout needs none of this: its buffers go to ``ipnetwork.read_address_column`` as
 they are.
@@ -135,7 +136,7 @@ def _of_numbers(
         fits, width = array.shape[1:] == (2,) and array.dtype.itemsize == 8, 16
         wanted = "whole numbers of 64 bits, two in each row"
     if array.dtype.kind not in "iu" or not fits:
-        given_is = f"one of {array.dtype} and of shape {array.shape}"
+        given_is = f"one of {array.dtype!s:.60} and of shape {array.shape}"
         raise TypeError(f"numbers={numbers} takes an array of {wanted}, not {given_is}")
     absent = _of_each_row(hidden)
     if missing is not None:
@@ -204,7 +205,10 @@ def _addresses(
     check_invalid(invalid)
     if given.shape[1] != _ROW:
         raise TypeError(f"addresses of read_addresses have {_ROW} bytes each, not {given.shape[1]}")
-    return numpy.ascontiguousarray(given).data
+    rows, hidden = _array_of(given)
+    if hidden.any():
+        rows = numpy.where(_of_each_row(hidden)[:, None], numpy.uint8(0), rows)
+    return numpy.ascontiguousarray(rows).data
 
 
 @overload
