@@ -46,6 +46,15 @@ func kind(one, other string) unsafe.Pointer {
 
 // numbered returns the number and the width of an address: 0 for the zero netip.Addr and an address with a zone.
 func numbered(address netip.Addr) (number integer, width uint8) {
+	if number, width = laid(address); width == 0 {
+		return numberedByOctets(address)
+	}
+	return number, width
+}
+
+// laid is numbered for an address whose layout tells its kind; of any other the width is 0. Unlike numbered, it is short
+// enough for the compiler to put it where it is called.
+func laid(address netip.Addr) (number integer, width uint8) {
 	held := (*layout)(unsafe.Pointer(&address))
 	switch held.kind {
 	case fourKind:
@@ -53,7 +62,7 @@ func numbered(address netip.Addr) (number integer, width uint8) {
 	case sixKind:
 		return held.number, 128
 	}
-	return numberedByOctets(address)
+	return integer{}, 0
 }
 
 func numberedByOctets(address netip.Addr) (number integer, width uint8) {
@@ -129,9 +138,13 @@ func (number integer) shifted(by uint) uint64 {
 	return number.high<<(64-by) | number.low>>by
 }
 
-// has reports whether an address is one of those that share all but the host bits with this one.
-func (number integer) has(hosts, address integer) bool {
-	return (number.high^address.high)&^hosts.high|(number.low^address.low)&^hosts.low == 0
+// shares reports whether the first bits of two integers, at most 128, are the same.
+func (number integer) shares(first uint8, other integer) bool {
+	high, low := number.high^other.high, number.low^other.low
+	if first <= 64 {
+		return first == 0 || high>>((64-first)&63) == 0
+	}
+	return high|low>>((128-first)&63) == 0
 }
 
 // startOfFour and startOfSix return the address of a block.

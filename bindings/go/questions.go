@@ -13,13 +13,16 @@ func (network Network) hosts() integer { return hostBits(network.width - network
 // Contains reports whether an address is a member of the network. An address of the other family is not, not even an
 // IPv4-mapped one whose Unmap is a member of the IPv4 network; neither is an address with a zone.
 func (network Network) Contains(address netip.Addr) bool {
-	number, width := numbered(address)
+	number, width := laid(address)
+	if width == 0 {
+		number, width = numberedByOctets(address)
+	}
 	return width == network.width && network.has(number)
 }
 
 // has reports whether the network has the address of its family with this number.
 func (network Network) has(number integer) bool {
-	return network.width != 0 && network.number.has(network.hosts(), number)
+	return network.width != 0 && network.number.shares(128-network.width+network.prefix, number)
 }
 
 // Network returns the least member: the address with its host bits cleared.

@@ -134,10 +134,14 @@ func TestOtherLayout(t *testing.T) {
 		one, other := pair(random, row%2 == 0)
 		addresses = append(addresses, one, other, netip.AddrFrom16(one.As16()))
 	}
+	networks := []Network{MustParse("0.0.0.0/1"), MustParse("::/1")}
+	set, _ := NewSet(networks)
+	table, _ := NewTable(networks)
 	ask := func() (told []any) {
 		for _, address := range addresses {
 			number, width := numbered(address)
-			told = append(told, number, width, number.address(width))
+			told = append(told, number, width, number.address(width), set.Contains(address), table.Find(address),
+				networks[0].Contains(address), networks[1].Contains(address))
 		}
 		return told
 	}

@@ -203,7 +203,10 @@ func same[Block comparable](blocks, others []Block) bool {
 
 // Contains reports whether an address is in the set, by a search in a few steps. No address with a zone is.
 func (set Set) Contains(address netip.Addr) bool {
-	number, width := numbered(address)
+	number, width := laid(address)
+	if width == 0 {
+		number, width = numberedByOctets(address)
+	}
 	held := set.lists()
 	switch width {
 	case 32:
@@ -211,8 +214,8 @@ func (set Set) Contains(address netip.Addr) bool {
 		place := held.placeOfFour(four)
 		return place >= 0 && (startOfFour(&held.fours[place])^four)>>(32-held.fours[place].prefix) == 0
 	case 128:
-		place := held.placeOfSix(number)
-		return place >= 0 && startOfSix(&held.sixes[place]).has(hostBits(128-uint8(held.sixes[place].prefix)), number)
+		place, start := held.placeOfSix(number)
+		return place >= 0 && start.shares(uint8(held.sixes[place].prefix), number)
 	}
 	return false
 }

@@ -97,7 +97,10 @@ func int64s(numbers []int) *C.int64_t { return (*C.int64_t)(unsafe.Pointer(start
 // block that of the last one. It returns -1 if no network has the address, as for an address with a zone.
 func (table Table) Find(address netip.Addr) int {
 	held := table.ranges()
-	number, width := numbered(address)
+	number, width := laid(address)
+	if width == 0 {
+		number, width = numberedByOctets(address)
+	}
 	if width == 32 || width == 128 && table.mapped && number.isMapped() {
 		if found := held.findFour(number); found >= 0 {
 			return found
@@ -106,7 +109,7 @@ func (table Table) Find(address netip.Addr) int {
 	if width != 128 {
 		return -1
 	}
-	place := held.placeOfSix(number)
+	place, _ := held.placeOfSix(number)
 	if place < 0 {
 		return -1
 	}

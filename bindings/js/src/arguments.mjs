@@ -15,12 +15,16 @@ export function wholeNumber(value, name) {
 
 /**
  * The value of the option that a call has, or what it is if it is not given. Any other option is an
- * error: a call that overlooked `maped` would answer as without the option.
+ * error: a call that overlooked `maped` would answer as without the option. So it is of a Map or an
+ * array, whose entries are no properties that name options.
  */
 function optionOf(options, name, otherwise) {
   if (options === undefined) return otherwise;
   if (typeof options !== 'object' || options === null) {
     throw wrongType('options', 'an object', options);
+  }
+  if (Object.prototype.toString.call(options) !== '[object Object]') {
+    throw new TypeError(`options must be an object whose property is ${name}, not a list or a map`);
   }
   const other = Object.keys(options).find((key) => key !== name);
   if (other !== undefined) {

@@ -319,6 +319,10 @@ test('options that are none', () => {
     for (const value of [null, true, 'mapped', 1]) {
       assert.throws(() => call(value), /^TypeError: options must be an object, not /);
     }
+    const entries = [[name, true]];
+    for (const value of [new Map(entries), [], entries, new URLSearchParams(entries)]) {
+      assert.throws(() => call(value), /^TypeError: options must be an object whose property is /);
+    }
     for (const value of [null, 1, 'yes', {}]) {
       const message = new RegExp(`^TypeError: options\\.${name} must be `);
       assert.throws(() => call({ [name]: value }), message);
