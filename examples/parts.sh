@@ -9,7 +9,7 @@ trap 'exit 2' ERR
 set -f
 folder=$(mktemp -d)
 trap 'rm -rf "$folder"' EXIT
-parallel=(parallel --plain --pipe --keep-order --quote --block 64M)
+parallel=(parallel --plain --pipe --keep-order --block 64M)
 machines=
 
 refuse() {
@@ -43,6 +43,15 @@ not_elsewhere() {
     [ ! "$machines" ] || refuse "--sshlogin: the parts need a file of this machine"
 }
 
+# The words of a command, quoted for a shell, so that GNU parallel sees no replacement string such as `{}` in them.
+quoted() {
+    local word
+    for word in "$@"; do
+        word=${word//\'/\'\\\'\'}
+        printf "'%s' " "${word//\{/\{\'\'}"
+    done
+}
+
 # Runs a command on each part of standard input, and prints what the parts print, in their order: on all processors by
 # GNU parallel, or else one part after the other, of PART_LINES lines.
 in_parts() {
@@ -58,7 +67,7 @@ in_parts() {
 by_parallel() {
     local status=0
     LC_ALL=C dd bs=65536 2> "$folder/read" |
-        PARALLEL_SHELL=$BASH "${parallel[@]}" --joblog "$folder/jobs" "$@" | cat || status=2
+        PARALLEL_SHELL=$BASH "${parallel[@]}" --joblog "$folder/jobs" "$(quoted "$@")" | cat || status=2
     grep '^dd: ' "$folder/read" >&2 || :
     [ $status -eq 0 ] || return 2
     awk -F '\t' 'NR == FNR { read = $1 + 0; next } FNR > 1 { sent += $5 } END { exit sent != read }' \
@@ -69,7 +78,7 @@ by_parallel() {
 one_by_one() {
     local status=0
     SHELL=$BASH split --lines="${PART_LINES:-500000}" \
-        --filter="$(printf '%q ' "$@") || { [ \$? -eq 2 ] && echo > $(printf '%q' "$folder/failed"); }" || status=2
+        --filter="$(quoted "$@") || { [ \$? -eq 2 ] && echo > $(quoted "$folder/failed"); }" || status=2
     [ ! -s "$folder/failed" ] || status=2
     return $status
 }
