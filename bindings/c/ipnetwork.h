@@ -9,7 +9,7 @@
  *
  * A call checks the prefix length of each struct that it reads: one greater than the width, 32 or 128, is
  * IPNETWORK_PREFIX. But a search in a set or a table does not read every struct, and a search in ranges and the making
- * of an index check no prefix length.
+ * of an index of a table or ranges check no prefix length.
  *
  * No call allocates memory, or keeps a pointer. Each call may be made from any thread, and from several threads at
  * once, as long as no other thread writes what it reads, or reads or writes what it writes.
@@ -386,7 +386,9 @@ IPNETWORK_CHECKED_FAULT ipnetwork_fault ipnetwork_v6_index_make(const ipnetwork_
     uint32_t *IPNETWORK_ALONE index, size_t index_length);
 
 /* The same for a table, as ipnetwork_v4_table_make and ipnetwork_v6_table_make leave it, or for ranges, as the calls
- * below make them. It is not checked that the list is one of these: an index is made of any list. */
+ * below make them. It is not checked that the list is one of these: an index is made of any list. Search a table by
+ * ipnetwork_v4_index_find or ipnetwork_v6_index_find: the calls that ask whether a set has an address answer 0 for one
+ * that is only in a block around others. */
 IPNETWORK_CHECKED_FAULT ipnetwork_fault ipnetwork_v4_table_index_make(const ipnetwork_v4 *blocks, size_t block_count,
     uint32_t *IPNETWORK_ALONE index, size_t index_length);
 IPNETWORK_CHECKED_FAULT ipnetwork_fault ipnetwork_v6_table_index_make(const ipnetwork_v6 *blocks, size_t block_count,
