@@ -247,7 +247,10 @@ IPNETWORK_CHECKED_AT((3)) ipnetwork_fault ipnetwork_address_read(const char *tex
 /* Writes the IPv4 address in an IPv4-mapped address, one of ::ffff:0:0/96 (RFC 4291, section 2.5.5.2), and any other
  * address as it is. A socket for both families reports its IPv4 peers as mapped addresses, which are found in lists of
  * IPv4 networks only after this. An entry such as ::ffff:10.0.0.0/104 or ::/0 has the IPv6 address as it stands: ask
- * about both, so that what is said of either form counts. IPNETWORK_NO_FAMILY if the length in the struct is neither 4 nor 16. */
+ * about both. What is said of either form counts: an IPv4-mapped IPv6 address is a member if the IPv4 address, or the
+ * IPv6 address as it stands, is one; its longest network is that of the IPv4 address, and if there is none that of the
+ * IPv6 address; and so for a network within ::ffff:0:0/96. IPNETWORK_NO_FAMILY if the length in the struct is neither 4
+ * nor 16. */
 IPNETWORK_CHECKED ipnetwork_fault ipnetwork_address_unmapped(const ipnetwork_address *address,
                                                              ipnetwork_address *IPNETWORK_ALONE unmapped);
 
