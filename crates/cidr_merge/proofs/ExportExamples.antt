@@ -50,7 +50,7 @@ pub sets : (export_text blocked Nft (ten ∷ one ∷ []) []
     ++ codes "create cidr_merge_ipv6_new hash:net family inet6 maxelem 4294967295 -exist\n"
     ++ codes "flush cidr_merge_ipv4_new\nadd cidr_merge_ipv4_new 10.0.0.0/8\n"
     ++ codes "flush cidr_merge_ipv6_new\nadd cidr_merge_ipv6_new ::/1\nadd cidr_merge_ipv6_new 8000::/1\n"
-    ++ codes "swap cidr_merge_ipv4_new cidr_merge_ipv4\nswap cidr_merge_ipv6_new cidr_merge_ipv6\n"
+    ++ codes "swap cidr_merge_ipv6_new cidr_merge_ipv6\nswap cidr_merge_ipv4_new cidr_merge_ipv4\n"
     ++ codes "destroy cidr_merge_ipv4_new\ndestroy cidr_merge_ipv6_new\n")
     × (export_text blocked Ipset [] []
     ≡ codes "create blocked_ipv4 hash:net family inet maxelem 65536 -exist\n"
@@ -58,7 +58,7 @@ pub sets : (export_text blocked Nft (ten ∷ one ∷ []) []
     ++ codes "create blocked_ipv6 hash:net family inet6 maxelem 65536 -exist\n"
     ++ codes "create blocked_ipv6_new hash:net family inet6 maxelem 65536 -exist\n"
     ++ codes "flush blocked_ipv4_new\nflush blocked_ipv6_new\n"
-    ++ codes "swap blocked_ipv4_new blocked_ipv4\nswap blocked_ipv6_new blocked_ipv6\n"
+    ++ codes "swap blocked_ipv6_new blocked_ipv6\nswap blocked_ipv4_new blocked_ipv4\n"
     ++ codes "destroy blocked_ipv4_new\ndestroy blocked_ipv6_new\n")
 unfolding digits
 sets = (refl, refl, refl)
