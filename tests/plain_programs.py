@@ -43,7 +43,7 @@ def cargo(folder, *words, serde, profile):
 
 def has_serde():
     """Whether serde is to be had."""
-    command = [TOP / "scripts/with_serde", "metadata", "fosibegan", "--format-version", "1"]
+    command = [TOP / "scripts/with_serde", "metadata", "fosibegan_core", "--format-version", "1"]
     return subprocess.run(command, stdout=subprocess.DEVNULL, stderr=subprocess.DEVNULL).returncode == 0
 
 

@@ -260,9 +260,9 @@ def _proved() -> dict[str, bytes]:
 
 def _rust() -> dict[str, bytes]:
     """What cargo makes the library of, by the names in a source distribution: a workspace of two packages."""
-    packages = ["fosibegan", "ipnetwork_c"]
+    packages = ["fosibegan_core", "ipnetwork_c"]
     settings, locked = (RUST / "Cargo.toml").read_text(), (RUST / "Cargo.lock").read_text()
-    workspace = '[workspace]\nresolver = "2"\nmembers = ["ipnetwork_c"]\nexclude = ["fosibegan", "target"]\n\n'
+    workspace = '[workspace]\nresolver = "2"\nmembers = ["ipnetwork_c"]\nexclude = ["fosibegan_core", "target"]\n\n'
     head, *blocks = locked.split("[[package]]\n")
     kept = [block.rstrip() for block in blocks if block.split('"')[1] in packages]
     files = {

@@ -28,7 +28,7 @@ units() {
 all_units() {
     passed=0
     crates_in "$registry"
-    units fosibegan/Cargo.toml --features serde --tests "$@"
+    units fosibegan_core/Cargo.toml --features serde --tests "$@"
     for package in cidr_programs cidr cidr_merge cidr_filter cidr_join cidr_info; do
         units Cargo.toml -p "$package" --lib --bins --tests "$@"
     done
@@ -65,7 +65,7 @@ narrow() {
     export "${variable}_LINKER=$tools-gcc" "${variable}_RUNNER=qemu-$qemu-static -L /usr/$tools"
     if [ "$serde" = yes ]; then
         passed=0
-        by "$least" units fosibegan --test widths --target "$target"
+        by "$least" units fosibegan_core --test widths --target "$target"
         echo "$name: $passed tests of casts passed"
     else
         skip "$name: casts" "serde_json in $registry" librust-serde-json-dev
@@ -174,13 +174,13 @@ elif here Windows x86_64-w64-mingw32-gcc gcc-mingw-w64-x86-64-win32 && here Wind
             "-Zcrate-attr=feature(let_else, inline_const, int_roundings, io_error_more, bench_black_box)" -C panic=unwind \
             -C linker=x86_64-w64-mingw32-gcc -L "$out/old" --crate-name "$name" "$out/old/$root" --out-dir "$out/old" "$@"
     }
-    below="--extern fosibegan=$out/old/libfosibegan.rlib"
-    older fosibegan fosibegan/src/lib.rs --crate-type rlib --cfg 'feature="std"'
+    below="--extern fosibegan_core=$out/old/libfosibegan_core.rlib"
+    older fosibegan_core fosibegan_core/src/lib.rs --crate-type rlib --cfg 'feature="std"'
     older cidr_programs cidr_programs/src/lib.rs --crate-type rlib $below
     for program in cidr cidr_filter cidr_join cidr_info; do
         older "$program" "$program/src/main.rs" $below --extern cidr_programs="$out/old/libcidr_programs.rlib"
     done
-    older units fosibegan/tests/units/main.rs --test $below
+    older units fosibegan_core/tests/units/main.rs --test $below
     export WINEPREFIX="$out/wine" WINEDEBUG=-all
     quiet wine.log wine "$out/old/units.exe"
     echo "Windows: $(sed -n 's/^test result: ok. \([0-9]* passed\).*/\1/p' "$out/wine.log") of the unit tests of the library"

@@ -57,14 +57,14 @@ CHANGES = [
     ("*/tests/**/*.rs", r"\bstd::hash::\{DefaultHasher, ", "std::{collections::hash_map::DefaultHasher, hash::{"),
     ("*/tests/**/*.rs", r"(hash_map::DefaultHasher, hash::\{[^}]*\})", r"\1}"),
     ("*/tests/units/of_ipnetwork/debug.rs", r" JsonFault,|.*JsonFault::.*\n", ""),
-    ("fosibegan/src/plain_std/rt.rs", r"#\[cfg\(not\(unix\)\)\]\nuse std::io::IsTerminal as _;\n", ""),
-    ("fosibegan/src/plain_std/rt.rs", r"self\.0\.is_terminal\(\)", "false"),
-    ("fosibegan/src/plain_std/rt.rs", r"\.as_encoded_bytes\(\)", r'.to_str().unwrap_or("\\0").as_bytes()'),
-    ("fosibegan/src/plain_std/words.rs", r"\.as_encoded_bytes\(\)", r'.to_str().unwrap_or("\\0").as_bytes()'),
-    ("fosibegan/src/plain_std/words.rs", r"\bstd::sync::OnceLock\b", "crate::older::OnceLock"),
-    ("fosibegan/src/plain_std/io.rs", r"\A", "pub use crate::older::IsTerminal;\n"),
-    ("fosibegan/src/plain_std/simd.rs", r"\A((?://!.*\n|\n)*)", r"\1use crate::older::Chunks as _;\n"),
-    ("fosibegan/src/lib.rs", r"\Z", MODULE),
+    ("fosibegan_core/src/plain_std/rt.rs", r"#\[cfg\(not\(unix\)\)\]\nuse std::io::IsTerminal as _;\n", ""),
+    ("fosibegan_core/src/plain_std/rt.rs", r"self\.0\.is_terminal\(\)", "false"),
+    ("fosibegan_core/src/plain_std/rt.rs", r"\.as_encoded_bytes\(\)", r'.to_str().unwrap_or("\\0").as_bytes()'),
+    ("fosibegan_core/src/plain_std/words.rs", r"\.as_encoded_bytes\(\)", r'.to_str().unwrap_or("\\0").as_bytes()'),
+    ("fosibegan_core/src/plain_std/words.rs", r"\bstd::sync::OnceLock\b", "crate::older::OnceLock"),
+    ("fosibegan_core/src/plain_std/io.rs", r"\A", "pub use crate::older::IsTerminal;\n"),
+    ("fosibegan_core/src/plain_std/simd.rs", r"\A((?://!.*\n|\n)*)", r"\1use crate::older::Chunks as _;\n"),
+    ("fosibegan_core/src/lib.rs", r"\Z", MODULE),
 ]
 
 

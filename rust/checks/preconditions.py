@@ -3,7 +3,7 @@
 
     rust/checks/preconditions.py
 
-Reads the sources in crates/ and what scripts/plain has made of them, and the rows in fosibegan/tests/preconditions.rs,
+Reads the sources in crates/ and what scripts/plain has made of them, and the rows in fosibegan_core/tests/preconditions.rs,
 which have to call each function that checks. The status is 1 if a function is neither hidden nor checked, or has no row.
 """
 
@@ -16,7 +16,7 @@ TOP = pathlib.Path(__file__).resolve().parents[2]
 sys.path.insert(0, str(TOP / "scripts"))
 from erasing import matching, needs  # noqa: E402
 
-LIBRARY = TOP / "rust/fosibegan"
+LIBRARY = TOP / "rust/fosibegan_core"
 # By which call they ask each value for its network, which checks that it has one.
 BY_ANOTHER = {"aggregate_held": "clear_host_bits", "is_address_set": "held_network"}
 HEAD = re.compile(r"^(?:pub(?:\([a-z]+\))? )?(?:trait|impl|fn)\b[^\n]*", re.M)
@@ -60,7 +60,7 @@ def state(written, texts, name, trait):
 
 
 def main():
-    crates = re.search(r"^fosibegan: (.*)", (TOP / "rust.txt").read_text(), re.M)[1].split()
+    crates = re.search(r"^fosibegan_core: (.*)", (TOP / "rust.txt").read_text(), re.M)[1].split()
     texts = [file.read_text() for file in sorted(LIBRARY.rglob("src/**/*.rs"))]
     rows = (LIBRARY / "tests/preconditions.rs").read_text()
     count, wrong = {"hidden": 0, "checked": 0, "open": 0}, []

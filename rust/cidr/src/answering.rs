@@ -8,8 +8,8 @@ use crate::route_tables::RouteTables;
 use cidr_programs::lines::buffer::Buffer;
 use cidr_programs::lines::fault::RunFault;
 use cidr_programs::lines::watched::Watched;
-use fosibegan::plain_std::alloc::Global;
-use fosibegan::plain_std::io::Write;
+use fosibegan_core::plain_std::alloc::Global;
+use fosibegan_core::plain_std::io::Write;
 
 /// The greatest number of bytes in a line, not counting its line ending. A longer line is too long.
 pub(crate) const LINE_MAX: usize = 1024;

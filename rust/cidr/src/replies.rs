@@ -2,7 +2,7 @@
 
 //! Adds answers to the replies that wait.
 
-use fosibegan::plain_std::arrayvec::ArrayString;
+use fosibegan_core::plain_std::arrayvec::ArrayString;
 use cidr_programs::lines::buffer::Buffer;
 
 /// The greatest number of bytes in an answer with its line feed.

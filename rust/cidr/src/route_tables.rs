@@ -2,9 +2,9 @@
 
 //! The routes that a run keeps.
 
-use fosibegan::ipnetwork::{IpAddr, IpNetwork, Ipv4Network, Ipv6Network};
-use fosibegan::ipnetwork_table::PrefixTable;
-use fosibegan::plain_std::alloc::{AllocError, Global};
+use fosibegan_core::ipnetwork::{IpAddr, IpNetwork, Ipv4Network, Ipv6Network};
+use fosibegan_core::ipnetwork_table::PrefixTable;
+use fosibegan_core::plain_std::alloc::{AllocError, Global};
 
 /// The numbers of blocks, in a table for each family.
 pub(crate) struct RouteTables {

@@ -6,8 +6,8 @@ use crate::answering::{Answering, LINE_MAX};
 use cidr_programs::lines::fault::RunFault;
 use cidr_programs::lines::line_buffer::{LineBuffer, NextLine};
 use cidr_programs::lines::watched::Watched;
-use fosibegan::plain_std::alloc::Global;
-use fosibegan::plain_std::io::{Read, Write};
+use fosibegan_core::plain_std::alloc::Global;
+use fosibegan_core::plain_std::io::{Read, Write};
 
 /// The greatest number of bytes that are read but not answered yet.
 const BUFFER_MAX: usize = 65536;

@@ -2,7 +2,7 @@
 
 //! The words of a line.
 
-use fosibegan::byte_search::find_from;
+use fosibegan_core::byte_search::find_from;
 
 /// Returns the word of a line that begins at the position `from`, and the position of the next
 /// word, after a blank. Returns `None` if the rest of the line is one word.

@@ -4,7 +4,7 @@
 
 use crate::matcher::Matcher;
 use crate::networks::covers;
-use fosibegan::ipnetwork::{IpAddr, IpNetwork};
+use fosibegan_core::ipnetwork::{IpAddr, IpNetwork};
 use cidr_programs::line_addresses::{Area, Found, Pick, Text, next_found, part_of, picked};
 use cidr_programs::log_programs::finding::found_in;
 use cidr_programs::log_programs::without_address::WithoutAddress;

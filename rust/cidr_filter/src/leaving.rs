@@ -5,7 +5,7 @@
 use crate::log::Reached;
 use cidr_programs::lines::output::Output;
 use cidr_programs::program::log_fault::LogFault;
-use fosibegan::plain_std::io::Write;
+use fosibegan_core::plain_std::io::Write;
 
 /// Returns how many lines may still be selected after a line, given how many might before it.
 #[inline(always)]

@@ -12,7 +12,7 @@ use cidr_programs::lines::watched::Watched;
 use cidr_programs::log_programs::log_stats::LogStats;
 use cidr_programs::program::log_fault::LogFault;
 use cidr_programs::program::log_reader::{LogReader, NextLogLine};
-use fosibegan::plain_std::io::{Read, Write};
+use fosibegan_core::plain_std::io::{Read, Write};
 
 /// Where the filtering of a log ends without a fault.
 #[derive(Clone, Copy, Debug, PartialEq, Eq)]

@@ -2,7 +2,7 @@
 
 //! Filters the logs of a run in turn.
 
-use fosibegan::plain_std::string::String;
+use fosibegan_core::plain_std::string::String;
 use crate::filter::{Filter, OutputMode, Verdict};
 use crate::help::PROGRAM;
 use crate::log::{Reached, Tally, filter_log};
@@ -17,7 +17,7 @@ use cidr_programs::program::ending::{FAILED, end};
 use cidr_programs::program::log_fault::stop;
 use cidr_programs::program::log_reader::LogReader;
 use cidr_programs::program::messages::tell_of;
-use fosibegan::plain_std::io::Write;
+use fosibegan_core::plain_std::io::Write;
 use std::mem::replace;
 
 /// The exit status if a line was selected.

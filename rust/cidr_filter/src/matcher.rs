@@ -2,10 +2,10 @@
 
 //! The networks of the lists, and how addresses and networks are looked up in them.
 
-use fosibegan::ipnetwork::{IpAddr, IpNetwork, Ipv4Network, Ipv6Network};
-use fosibegan::ipnetwork_index::{AddressIndex, BlockIndex};
-use fosibegan::ipnetwork_sets::{AddressSet, IpAddressSet};
-use fosibegan::plain_std::alloc::{AllocError, Global};
+use fosibegan_core::ipnetwork::{IpAddr, IpNetwork, Ipv4Network, Ipv6Network};
+use fosibegan_core::ipnetwork_index::{AddressIndex, BlockIndex};
+use fosibegan_core::ipnetwork_sets::{AddressSet, IpAddressSet};
+use fosibegan_core::plain_std::alloc::{AllocError, Global};
 
 /// The networks of the lists, stored for one kind of question.
 pub enum Matcher {

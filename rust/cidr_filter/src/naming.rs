@@ -8,7 +8,7 @@ use cidr_programs::lines::fault::RunFault;
 use cidr_programs::lines::output::Output;
 use cidr_programs::program::messages::number_text;
 use cidr_programs::program::putting::put_both;
-use fosibegan::plain_std::io::Write;
+use fosibegan_core::plain_std::io::Write;
 
 /// Returns the label that is printed for the log with this name before its lines or their count;
 /// empty if none is printed.

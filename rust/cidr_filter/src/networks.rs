@@ -2,8 +2,8 @@
 
 //! Whether the lists cover a network.
 
-use fosibegan::ipnetwork::IpNetwork;
-use fosibegan::ipnetwork_sets::IpAddressSet;
+use fosibegan_core::ipnetwork::IpNetwork;
+use fosibegan_core::ipnetwork_sets::IpAddressSet;
 use cidr_programs::log_programs::unmapping::asked_network;
 
 /// Returns whether the text names a network whose addresses are all in the set. If `mapped`, a

@@ -6,13 +6,13 @@ use crate::filter::{Filter, OutputMode, Verdict};
 use crate::matcher::Matcher;
 use crate::naming::put_head;
 use crate::printing_addresses::print_addresses;
-use fosibegan::ipnetwork::IpNetwork;
+use fosibegan_core::ipnetwork::IpNetwork;
 use cidr_programs::lines::fault::RunFault;
 use cidr_programs::lines::line_end::LineEnd;
 use cidr_programs::lines::output::Output;
 use cidr_programs::program::log_reader::put_feed;
 use cidr_programs::program::putting::put_both;
-use fosibegan::plain_std::io::Write;
+use fosibegan_core::plain_std::io::Write;
 
 /// Writes what is printed for the selected line with this number and verdict. `line` is the line
 /// without its end, `whole` with it.

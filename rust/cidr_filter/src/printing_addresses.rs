@@ -8,7 +8,7 @@ use cidr_programs::line_addresses::{Found, Pick, next_found, part_of, picked};
 use cidr_programs::lines::fault::RunFault;
 use cidr_programs::lines::output::Output;
 use cidr_programs::program::putting::put_both;
-use fosibegan::plain_std::io::Write;
+use fosibegan_core::plain_std::io::Write;
 
 /// Writes the addresses of the line with this number that are in the list, as they are spelled,
 /// each on a line.

@@ -2,16 +2,16 @@
 
 //! Reads the lists of a run.
 
-use fosibegan::plain_std::vec::Vec;
+use fosibegan_core::plain_std::vec::Vec;
 use crate::matcher::{Matcher, Sets, Tables};
 use crate::rows::{LONGEST, NETWORKS, TEXT};
-use fosibegan::ipnetwork::{Ipv4Network, Ipv6Network};
-use fosibegan::ipnetwork_sets::{AddressSet, IpAddressSet};
+use fosibegan_core::ipnetwork::{Ipv4Network, Ipv6Network};
+use fosibegan_core::ipnetwork_sets::{AddressSet, IpAddressSet};
 use cidr_programs::lists::{ListReader, OpenLists, ReadFault, Refusals, read_named, read_text};
 use cidr_programs::log_programs::rows::LIST;
 use cidr_programs::options::given::is_given;
 use cidr_programs::options::items::{Item, Text};
-use fosibegan::plain_std::alloc::{AllocError, Global};
+use fosibegan_core::plain_std::alloc::{AllocError, Global};
 
 /// What an option tells the program to read.
 #[derive(Debug)]

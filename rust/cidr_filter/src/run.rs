@@ -2,8 +2,8 @@
 
 //! The run that the program makes.
 
-use fosibegan::plain_std::string::String;
-use fosibegan::plain_std::vec;
+use fosibegan_core::plain_std::string::String;
+use fosibegan_core::plain_std::vec;
 use crate::filter::{Family, Filter, OutputMode};
 use crate::help::{HELP, PROGRAM, USAGE, VERSION};
 use crate::logs::filter_logs;
@@ -28,8 +28,8 @@ use cidr_programs::program::ending::FAILED;
 use cidr_programs::program::log_reader::BUFFER_LEN;
 use cidr_programs::program::memory::refuse_memory;
 use cidr_programs::program::telling::{tell_fault, tell_refusals};
-use fosibegan::plain_std::alloc::Global;
-use fosibegan::plain_std::io::Write;
+use fosibegan_core::plain_std::alloc::Global;
+use fosibegan_core::plain_std::io::Write;
 
 /// Does what the words after the program's name ask for, and returns the exit status.
 pub(crate) fn run<L: OpenLists, W: Write, E: Write>(

@@ -2,13 +2,13 @@
 
 //! The names and numbers by which refused lines are reported.
 
-use fosibegan::plain_std::vec::Vec;
-use fosibegan::plain_std::string::String;
+use fosibegan_core::plain_std::vec::Vec;
+use fosibegan_core::plain_std::string::String;
 use crate::reading::{Source, source_of};
 use cidr_programs::lists::Refusal;
 use cidr_programs::options::items::Item;
 use cidr_programs::program::telling::Places;
-use fosibegan::plain_std::alloc::{AllocError, Global};
+use fosibegan_core::plain_std::alloc::{AllocError, Global};
 
 /// The places of refused lines: in a list or in the text of an `-e`, by the items that name them.
 #[derive(Clone, Copy)]

@@ -3,8 +3,8 @@
 //! Decimal and hexadecimal texts of numbers.
 
 use crate::value::VALUE_MAX;
-use fosibegan::plain_std::arrayvec::ArrayString;
-use fosibegan::ipnetwork_addr::decimal::push_number;
+use fosibegan_core::plain_std::arrayvec::ArrayString;
+use fosibegan_core::ipnetwork_addr::decimal::push_number;
 
 /// Returns two to the power of `bits`, in decimal.
 pub(crate) fn power_text(bits: u8) -> ArrayString<VALUE_MAX> {

@@ -5,11 +5,11 @@
 use crate::field::{FIELDS, Field, before_value, behind_value};
 use crate::said::Said;
 use crate::value::value_of;
-use fosibegan::ipnetwork::IpNetwork;
+use fosibegan_core::ipnetwork::IpNetwork;
 use cidr_programs::lines::fault::RunFault;
 use cidr_programs::lines::output::Output;
 use cidr_programs::program::putting::put_all;
-use fosibegan::plain_std::io::Write;
+use fosibegan_core::plain_std::io::Write;
 
 /// Prints the fields of the networks that these texts name: as blocks of lines, or as JSON.
 pub(crate) fn put_infos<W: Write>(

@@ -2,15 +2,15 @@
 
 //! A run of the program.
 
-use fosibegan::plain_std::vec::Vec;
-use fosibegan::plain_std::string::String;
+use fosibegan_core::plain_std::vec::Vec;
+use fosibegan_core::plain_std::string::String;
 use crate::help::{HELP, PROGRAM, USAGE, VERSION};
 use crate::printing::put_infos;
 use crate::rows::{IN, JSON, NO_NETWORK, table};
 use crate::said::{Said, network_in};
 use crate::telling::{tell_input_fault, tell_refusals};
 use crate::words::{reads_input, words_said};
-use fosibegan::ipnetwork::IpNetwork;
+use fosibegan_core::ipnetwork::IpNetwork;
 use cidr_programs::lines::fault::RunFault;
 use cidr_programs::lines::output::Output;
 use cidr_programs::lists::{BytesFault, OpenLists, read_bytes};
@@ -24,8 +24,8 @@ use cidr_programs::options::table::Table;
 use cidr_programs::program::ending::{FAILED, end, print_text};
 use cidr_programs::program::memory::refuse_memory;
 use cidr_programs::program::start::text_asked;
-use fosibegan::plain_std::alloc::Global;
-use fosibegan::plain_std::io::Write;
+use fosibegan_core::plain_std::alloc::Global;
+use fosibegan_core::plain_std::io::Write;
 
 /// The most bytes that are read of standard input.
 const INPUT_MAX: usize = 1_073_741_824;

@@ -2,7 +2,7 @@
 
 //! A text that is expected to name a network.
 
-use fosibegan::ipnetwork::IpNetwork;
+use fosibegan_core::ipnetwork::IpNetwork;
 
 /// A word of the command line or the text of a line, and the network that it names, if it names
 /// one.

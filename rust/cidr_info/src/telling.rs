@@ -4,13 +4,13 @@
 
 use crate::help::PROGRAM;
 use crate::said::Said;
-use fosibegan::ipnetwork::{CidrFault, cause};
+use fosibegan_core::ipnetwork::{CidrFault, cause};
 use cidr_programs::lines::output::Output;
 use cidr_programs::lists::{BytesFault, encoding_of};
 use cidr_programs::program::log_fault::tell_fault_of;
 use cidr_programs::program::messages::{tell, tell_number, tell_of};
 use cidr_programs::program::usage::tell_shown;
-use fosibegan::plain_std::io::Write;
+use fosibegan_core::plain_std::io::Write;
 
 /// Reports each of these texts that names no network.
 pub(crate) fn tell_refusals<E: Write>(all: &[Said<'_>], errors: &mut Output<'_, E>) {

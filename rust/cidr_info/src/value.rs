@@ -5,9 +5,9 @@
 use crate::field::Field;
 use crate::number_texts::{decimal_text, hex_text, power_text};
 use crate::zone::zone_text;
-use fosibegan::plain_std::arrayvec::ArrayString;
-use fosibegan::ipnetwork::{IpAddr, IpNetwork, Ipv4Addr, Ipv4Network, Ipv6Addr};
-use fosibegan::ipnetwork_addr::decimal::push_decimal;
+use fosibegan_core::plain_std::arrayvec::ArrayString;
+use fosibegan_core::ipnetwork::{IpAddr, IpNetwork, Ipv4Addr, Ipv4Network, Ipv6Addr};
+use fosibegan_core::ipnetwork_addr::decimal::push_decimal;
 
 /// The most bytes of a value: two IPv6 addresses with ` - ` between them.
 pub(crate) const VALUE_MAX: usize = 81;

@@ -2,11 +2,11 @@
 
 //! What the words of a command line and the lines of standard input say.
 
-use fosibegan::plain_std::vec::Vec;
+use fosibegan_core::plain_std::vec::Vec;
 use crate::said::Said;
 use cidr_programs::lists::{ByteKind, trim};
 use cidr_programs::options::items::Item;
-use fosibegan::plain_std::alloc::{AllocError, Global};
+use fosibegan_core::plain_std::alloc::{AllocError, Global};
 
 // The bytes that are trimmed from a line: spaces, tabs and carriage returns.
 struct Blank;

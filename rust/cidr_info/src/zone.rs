@@ -4,9 +4,9 @@
 
 use crate::number_texts::hex_digit;
 use crate::value::VALUE_MAX;
-use fosibegan::plain_std::arrayvec::ArrayString;
-use fosibegan::ipnetwork::IpNetwork;
-use fosibegan::ipnetwork_addr::decimal::push_decimal;
+use fosibegan_core::plain_std::arrayvec::ArrayString;
+use fosibegan_core::ipnetwork::IpNetwork;
+use fosibegan_core::ipnetwork_addr::decimal::push_decimal;
 
 /// Returns the reverse zone of a network: that of the octets that its prefix length covers in full,
 /// or of the nibbles of an IPv6 network.

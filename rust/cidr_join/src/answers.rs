@@ -5,7 +5,7 @@
 use crate::found::Found;
 use crate::lengths::Lengths;
 use crate::routes::Routes;
-use fosibegan::ipnetwork::IpNetwork;
+use fosibegan_core::ipnetwork::IpNetwork;
 
 /// What decides what is printed for the network of a line.
 pub enum Answers<'a> {

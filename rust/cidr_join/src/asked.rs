@@ -2,7 +2,7 @@
 
 //! What was found in a line, as a network.
 
-use fosibegan::ipnetwork::IpNetwork;
+use fosibegan_core::ipnetwork::IpNetwork;
 use cidr_programs::line_addresses::Found;
 
 /// What was found in a line, as a network: that which its text names, if `networks`, or that of its

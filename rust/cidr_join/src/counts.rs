@@ -2,11 +2,11 @@
 
 //! Counts of the texts that are printed for lines.
 
-use fosibegan::plain_std::vec::Vec;
-use fosibegan::plain_std::vec;
+use fosibegan_core::plain_std::vec::Vec;
+use fosibegan_core::plain_std::vec;
 use crate::found::Found;
 use crate::tally::{Row, Tally};
-use fosibegan::plain_std::alloc::{AllocError, Global};
+use fosibegan_core::plain_std::alloc::{AllocError, Global};
 
 /// How often each text was counted: by number, if a number stands for it, or by its bytes.
 pub struct Counts {

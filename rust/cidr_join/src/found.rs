@@ -3,7 +3,7 @@
 //! What is found for the address or network of a line.
 
 use crate::value::Value;
-use fosibegan::ipnetwork::IpNetwork;
+use fosibegan_core::ipnetwork::IpNetwork;
 
 /// What is found, and printed, for the address or network of a line.
 #[derive(Clone, Copy, Debug)]

@@ -5,7 +5,7 @@
 use crate::answers::Answers;
 use crate::asked::network_of;
 use crate::found::Found;
-use fosibegan::ipnetwork::IpNetwork;
+use fosibegan_core::ipnetwork::IpNetwork;
 use cidr_programs::line_addresses::{Area, part_of, picked};
 use cidr_programs::log_programs::unmapping::asked_network;
 use cidr_programs::log_programs::without_address::WithoutAddress;

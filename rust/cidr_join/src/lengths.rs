@@ -3,7 +3,7 @@
 //! Blocks of one length in each family.
 
 use crate::found::Found;
-use fosibegan::ipnetwork::{IpNetwork, Ipv4Network, Ipv6Network};
+use fosibegan_core::ipnetwork::{IpNetwork, Ipv4Network, Ipv6Network};
 
 /// The lengths of the blocks in which lines are grouped.
 #[derive(Clone, Copy, Debug, PartialEq, Eq)]

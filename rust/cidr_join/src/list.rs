@@ -6,13 +6,13 @@ use crate::help::PROGRAM;
 use crate::line::{Cause, read_route};
 use crate::routes::{Networks, RouteFault, set_one, set_range};
 use crate::value::Value;
-use fosibegan::byte_search::find_from;
-use fosibegan::ipnetwork::{IpAddr, IpNetwork};
+use fosibegan_core::byte_search::find_from;
+use fosibegan_core::ipnetwork::{IpAddr, IpNetwork};
 use cidr_programs::lines::output::Output;
 use cidr_programs::lists::Entry;
 use cidr_programs::program::log_fault::tell_line;
-use fosibegan::plain_std::alloc::Global;
-use fosibegan::plain_std::io::Write;
+use fosibegan_core::plain_std::alloc::Global;
+use fosibegan_core::plain_std::io::Write;
 
 /// How the lines of a list are taken.
 #[derive(Clone, Copy, Debug, PartialEq, Eq)]

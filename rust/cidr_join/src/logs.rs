@@ -2,7 +2,7 @@
 
 //! Joins the logs of a run in turn.
 
-use fosibegan::plain_std::string::String;
+use fosibegan_core::plain_std::string::String;
 use crate::help::PROGRAM;
 use crate::join::Join;
 use crate::log::join_log;
@@ -13,7 +13,7 @@ use cidr_programs::lists::{OpenLists, open_input};
 use cidr_programs::log_programs::log_stats::LogStats;
 use cidr_programs::log_programs::telling::{is_missed, tell_closed, tell_seen};
 use cidr_programs::program::log_fault::stop;
-use fosibegan::plain_std::io::Write;
+use fosibegan_core::plain_std::io::Write;
 
 /// Joins the logs with these names in turn, and returns whether one could not be opened or a line
 /// of one is missed. If one that was opened is not joined to its end, the cause is reported and

@@ -2,8 +2,8 @@
 
 //! The longest network of an index that has all addresses of another network.
 
-use fosibegan::ipnetwork_index::{IndexedNetwork, RouteIndex};
-use fosibegan::ipnetwork_table::PrefixTable;
+use fosibegan_core::ipnetwork_index::{IndexedNetwork, RouteIndex};
+use fosibegan_core::ipnetwork_table::PrefixTable;
 
 /// The longest network of the index that has all addresses of this one, and its value. One look-up
 /// finds it, unless a longer network than this one has its address: then the table is asked for

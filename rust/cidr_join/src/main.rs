@@ -6,7 +6,7 @@
     clippy::non_canonical_clone_impl)]
 #![forbid(unsafe_code)]
 
-use fosibegan::plain_std::rt::HostRuntime;
+use fosibegan_core::plain_std::rt::HostRuntime;
 
 mod answers;
 mod asked;

@@ -9,7 +9,7 @@ use cidr_programs::lines::line_end::LineEnd;
 use cidr_programs::lines::output::Output;
 use cidr_programs::program::log_reader::put_feed;
 use cidr_programs::program::putting::put_both;
-use fosibegan::plain_std::io::Write;
+use fosibegan_core::plain_std::io::Write;
 
 /// Writes a line and, before or after it, what was found for its address: the value, the network,
 /// or a minus sign for nothing. `line` is the line without its end, `whole` with it; a missing line

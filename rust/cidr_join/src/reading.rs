@@ -2,7 +2,7 @@
 
 //! Reads the lists of a run, and takes their lines.
 
-use fosibegan::plain_std::vec::Vec;
+use fosibegan_core::plain_std::vec::Vec;
 use crate::help::PROGRAM;
 use crate::list::{ListRules, Listing, take_list};
 use crate::routes::Networks;
@@ -14,8 +14,8 @@ use cidr_programs::log_programs::rows::LIST;
 use cidr_programs::options::items::{Item, Text};
 use cidr_programs::program::messages::tell_of;
 use cidr_programs::program::telling::tell_more;
-use fosibegan::plain_std::alloc::Global;
-use fosibegan::plain_std::io::Write;
+use fosibegan_core::plain_std::alloc::Global;
+use fosibegan_core::plain_std::io::Write;
 
 /// The greatest number of bytes in a list.
 const LIST_MAX: usize = 1_073_741_824;

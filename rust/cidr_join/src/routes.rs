@@ -5,11 +5,11 @@
 use crate::line::Cause;
 use crate::longest::longest_over;
 use crate::value::Value;
-use fosibegan::ipnetwork::{IpNetwork, Ipv4Network, Ipv6Network};
-use fosibegan::ipnetwork_blocks::{AddressSpace, RangeBlocks, range_to_blocks};
-use fosibegan::ipnetwork_index::RouteIndex;
-use fosibegan::ipnetwork_table::PrefixTable;
-use fosibegan::plain_std::alloc::{AllocError, Global};
+use fosibegan_core::ipnetwork::{IpNetwork, Ipv4Network, Ipv6Network};
+use fosibegan_core::ipnetwork_blocks::{AddressSpace, RangeBlocks, range_to_blocks};
+use fosibegan_core::ipnetwork_index::RouteIndex;
+use fosibegan_core::ipnetwork_table::PrefixTable;
+use fosibegan_core::plain_std::alloc::{AllocError, Global};
 
 /// The networks of a list that were read so far, by family, with their values. Each is stored as
 /// its block, with its host bits set to zero.

@@ -2,10 +2,10 @@
 
 //! The counts of texts.
 
-use fosibegan::plain_std::vec::Vec;
-use fosibegan::plain_std::alloc::{AllocError, Global};
+use fosibegan_core::plain_std::vec::Vec;
+use fosibegan_core::plain_std::alloc::{AllocError, Global};
 use std::cmp::Reverse;
-use fosibegan::plain_std::collections::HashMap;
+use fosibegan_core::plain_std::collections::HashMap;
 
 /// A count and its text. The count is reversed, so that greater ones are sorted first.
 pub(crate) type Row = (Reverse<u64>, Vec<u8>);

@@ -2,19 +2,19 @@
 
 //! Counts what is found for the lines of a log.
 
-use fosibegan::plain_std::vec::Vec;
+use fosibegan_core::plain_std::vec::Vec;
 use crate::counts::Counts;
 use crate::found::Found;
 use crate::join::Join;
 use crate::value_ids::ValueIds;
-use fosibegan::ipnetwork::IpNetwork;
+use fosibegan_core::ipnetwork::IpNetwork;
 use cidr_programs::lines::output::Output;
 use cidr_programs::lines::watched::Watched;
 use cidr_programs::log_programs::log_stats::LogStats;
 use cidr_programs::program::log_fault::LogFault;
 use cidr_programs::program::log_reader::{LogReader, NextLogLine};
-use fosibegan::plain_std::alloc::{AllocError, Global};
-use fosibegan::plain_std::io::Read;
+use fosibegan_core::plain_std::alloc::{AllocError, Global};
+use fosibegan_core::plain_std::io::Read;
 
 /// Why the lines of a log are not counted to its end.
 #[derive(Clone, Copy, Debug, PartialEq, Eq)]

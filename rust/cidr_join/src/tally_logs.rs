@@ -2,7 +2,7 @@
 
 //! Counts what is found for the lines of the logs of a run, and prints the counts.
 
-use fosibegan::plain_std::string::String;
+use fosibegan_core::plain_std::string::String;
 use crate::counts::Counts;
 use crate::help::PROGRAM;
 use crate::join::Join;
@@ -22,8 +22,8 @@ use cidr_programs::program::log_fault::tell_log_fault;
 use cidr_programs::program::memory::refuse_memory;
 use cidr_programs::program::messages::{number_text, tell_of};
 use cidr_programs::program::putting::put_both;
-use fosibegan::plain_std::alloc::Global;
-use fosibegan::plain_std::io::Write;
+use fosibegan_core::plain_std::alloc::Global;
+use fosibegan_core::plain_std::io::Write;
 
 /// Counts what is found for the lines of the logs with these names, prints the counts, and returns
 /// the exit status.

@@ -12,7 +12,7 @@ use cidr_programs::log_programs::log_stats::LogStats;
 use cidr_programs::log_programs::telling::tell_lacking;
 use cidr_programs::program::log_fault::{tell_fault_of, tell_line};
 use cidr_programs::program::messages::tell_of;
-use fosibegan::plain_std::io::Write;
+use fosibegan_core::plain_std::io::Write;
 
 /// Reports why the list with this name was not read.
 pub(crate) fn tell_bytes_fault<E: Write>(name: &str, fault: BytesFault, errors: &mut Output<'_, E>) {

@@ -2,16 +2,16 @@
 
 //! Numbers for what is printed for addresses by the networks of a list.
 
-use fosibegan::plain_std::vec::Vec;
+use fosibegan_core::plain_std::vec::Vec;
 use crate::answers::Answers;
 use crate::found::Found;
 use crate::longest::longest_over;
 use crate::routes::Routes;
 use crate::value::Value;
-use fosibegan::ipnetwork::{IpNetwork, Ipv4Network, Ipv6Network};
-use fosibegan::ipnetwork_index::{IndexedNetwork, RouteIndex};
-use fosibegan::ipnetwork_table::PrefixTable;
-use fosibegan::plain_std::alloc::{AllocError, Global};
+use fosibegan_core::ipnetwork::{IpNetwork, Ipv4Network, Ipv6Network};
+use fosibegan_core::ipnetwork_index::{IndexedNetwork, RouteIndex};
+use fosibegan_core::ipnetwork_table::PrefixTable;
+use fosibegan_core::plain_std::alloc::{AllocError, Global};
 
 /// The numbers of the networks of a list, and what each number stands for. The number 0 is for
 /// what none of them contains. If blocks are printed, there are no numbers.

@@ -3,10 +3,10 @@
 //! Prints addresses.
 
 use crate::set_names::{SetNames, put_line};
-use fosibegan::ipnetwork::{Address, NetworkIterator};
+use fosibegan_core::ipnetwork::{Address, NetworkIterator};
 use cidr_programs::lines::fault::RunFault;
 use cidr_programs::lines::output::Output;
-use fosibegan::plain_std::io::Write;
+use fosibegan_core::plain_std::io::Write;
 
 /// Prints each address on a line of its own.
 pub(crate) fn print_addresses<A: Address, W: Write>(

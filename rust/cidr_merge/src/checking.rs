@@ -10,7 +10,7 @@ use crate::placed::key_of;
 use crate::texts::WholeLists;
 use cidr_programs::lines::output::Output;
 use cidr_programs::lists::Entry;
-use fosibegan::plain_std::io::Write;
+use fosibegan_core::plain_std::io::Write;
 
 /// Prints the findings for the lines of lists, strictly or not, and returns whether there are any.
 pub(crate) fn check_lists<W: Write>(

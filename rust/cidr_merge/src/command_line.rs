@@ -2,8 +2,8 @@
 
 //! What the words of a command line ask for.
 
-use fosibegan::plain_std::vec::Vec;
-use fosibegan::plain_std::string::String;
+use fosibegan_core::plain_std::vec::Vec;
+use fosibegan_core::plain_std::string::String;
 use crate::exports::Export;
 use crate::faults::{fault_of, from_count, no_task_fault};
 use crate::named_lists::{add_file, lists_of};
@@ -19,7 +19,7 @@ use cidr_programs::options::reading::items_of;
 use cidr_programs::options::table::Table;
 use cidr_programs::options::values::{length_in, number_in};
 use cidr_programs::program::words::count_of;
-use fosibegan::plain_std::alloc::{AllocError, Global};
+use fosibegan_core::plain_std::alloc::{AllocError, Global};
 
 /// What is done with the lists.
 #[derive(Clone, Copy, Debug, PartialEq, Eq)]

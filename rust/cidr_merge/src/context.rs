@@ -2,9 +2,9 @@
 
 //! The inputs of a run.
 
-use fosibegan::plain_std::string::String;
+use fosibegan_core::plain_std::string::String;
 use crate::set_names::SetNames;
-use fosibegan::plain_std::alloc::Global;
+use fosibegan_core::plain_std::alloc::Global;
 
 /// The inputs of a run, without its outputs.
 pub(crate) struct Context<'a, L> {

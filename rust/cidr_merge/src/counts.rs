@@ -3,11 +3,11 @@
 //! The numbers of blocks and of addresses.
 
 use crate::sweep::Sweep;
-use fosibegan::plain_std::arrayvec::ArrayString;
-use fosibegan::ipnetwork::CidrNetwork;
-use fosibegan::ipnetwork_addr::decimal::push_number;
-use fosibegan::ipnetwork_blocks::AddressSpace;
-use fosibegan::ipnetwork_sets::{AddressCount, SetBlocks};
+use fosibegan_core::plain_std::arrayvec::ArrayString;
+use fosibegan_core::ipnetwork::CidrNetwork;
+use fosibegan_core::ipnetwork_addr::decimal::push_number;
+use fosibegan_core::ipnetwork_blocks::AddressSpace;
+use fosibegan_core::ipnetwork_sets::{AddressCount, SetBlocks};
 
 /// The number of blocks, and of the addresses in them.
 #[derive(Clone, Copy, Debug)]

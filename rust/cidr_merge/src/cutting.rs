@@ -3,12 +3,12 @@
 //! Splits networks into subnets of one prefix length.
 
 use crate::set_names::{SetNames, put_line};
-use fosibegan::ipnetwork::{Address, CidrNetwork, Network};
-use fosibegan::ipnetwork_blocks::subnets;
-use fosibegan::ipnetwork_sets::AddressSet;
+use fosibegan_core::ipnetwork::{Address, CidrNetwork, Network};
+use fosibegan_core::ipnetwork_blocks::subnets;
+use fosibegan_core::ipnetwork_sets::AddressSet;
 use cidr_programs::lines::fault::RunFault;
 use cidr_programs::lines::output::Output;
-use fosibegan::plain_std::io::Write;
+use fosibegan_core::plain_std::io::Write;
 
 /// Prints the subnets of this prefix length of each block of a set, or the block if it has none.
 pub(crate) fn print_pieces<A: Address, W: Write>(

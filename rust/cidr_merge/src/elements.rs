@@ -6,13 +6,13 @@ use crate::addresses::print_addresses;
 use crate::cutting::put_network;
 use crate::exports::{Export, Version, family_word};
 use crate::set_names::{Name, SetNames};
-use fosibegan::plain_std::arrayvec::ArrayString;
-use fosibegan::ipnetwork::{Address, Network};
-use fosibegan::ipnetwork_addr::decimal::push_decimal;
+use fosibegan_core::plain_std::arrayvec::ArrayString;
+use fosibegan_core::ipnetwork::{Address, Network};
+use fosibegan_core::ipnetwork_addr::decimal::push_decimal;
 use cidr_programs::lines::fault::RunFault;
 use cidr_programs::lines::output::Output;
 use cidr_programs::program::putting::put_all;
-use fosibegan::plain_std::io::Write;
+use fosibegan_core::plain_std::io::Write;
 
 /// The greatest length of a line of comma-separated values, in bytes.
 const LINE_CAPACITY: usize = 129;

@@ -2,7 +2,7 @@
 
 //! The entries in the lines of lists, and the addresses they have.
 
-use fosibegan::ipnetwork::IpAddr;
+use fosibegan_core::ipnetwork::IpAddr;
 use cidr_programs::lists::{Entry, LINE_MAX, LineFault, read_entry};
 
 /// Returns the entry of a line, if it has one, or why the line is refused.

@@ -6,11 +6,11 @@ use crate::elements::print_element;
 use crate::exports::{Export, Frame, Version, around_blocks, put_frame};
 use crate::set_names::SetNames;
 use crate::sweep::Sweep;
-use fosibegan::ipnetwork::{Address, Ipv4Network, Ipv6Network, Network};
-use fosibegan::ipnetwork_sets::SetBlocks;
+use fosibegan_core::ipnetwork::{Address, Ipv4Network, Ipv6Network, Network};
+use fosibegan_core::ipnetwork_sets::SetBlocks;
 use cidr_programs::lines::fault::RunFault;
 use cidr_programs::lines::output::Output;
-use fosibegan::plain_std::io::Write;
+use fosibegan_core::plain_std::io::Write;
 
 /// Prints an export of the blocks of both families.
 pub(crate) fn print_export<W: Write>(

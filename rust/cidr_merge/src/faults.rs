@@ -2,7 +2,7 @@
 
 //! What is wrong with the words of a command line.
 
-use fosibegan::plain_std::string::String;
+use fosibegan_core::plain_std::string::String;
 use crate::command_line::{Form, Operation, form_called, form_of, most_in, prefix_in};
 use crate::exports::Export;
 use crate::rows::{

@@ -2,9 +2,9 @@
 
 //! Runs a `find`.
 
-use fosibegan::plain_std::vec::Vec;
-use fosibegan::plain_std::string::String;
-use fosibegan::plain_std::vec;
+use fosibegan_core::plain_std::vec::Vec;
+use fosibegan_core::plain_std::string::String;
+use fosibegan_core::plain_std::vec;
 use crate::context::Context;
 use crate::faults::at;
 use crate::findings::either;
@@ -15,7 +15,7 @@ use crate::searching::search_lists;
 use crate::sought::{add_lines, sought_in_words, tell_others};
 use crate::sought_places::places_of;
 use crate::texts::{WholeLists, texts_of};
-use fosibegan::ipnetwork::IpAddr;
+use fosibegan_core::ipnetwork::IpAddr;
 use cidr_programs::lines::output::Output;
 use cidr_programs::lists::OpenLists;
 use cidr_programs::options::refusing::refuse;
@@ -23,8 +23,8 @@ use cidr_programs::options::table::Row;
 use cidr_programs::program::ending::{FAILED, end};
 use cidr_programs::program::memory::refuse_memory;
 use cidr_programs::program::words::text_at;
-use fosibegan::plain_std::alloc::{AllocError, Global};
-use fosibegan::plain_std::io::Write;
+use fosibegan_core::plain_std::alloc::{AllocError, Global};
+use fosibegan_core::plain_std::io::Write;
 
 /// The exit status if an entry was printed.
 const FOUND: u8 = 0;

@@ -9,7 +9,7 @@ use cidr_programs::lists::LineFault;
 use cidr_programs::program::escapes::tell_escaped;
 use cidr_programs::program::messages::{tell, tell_bytes, tell_number, tell_of};
 use cidr_programs::program::usage::tell_shown;
-use fosibegan::plain_std::io::Write;
+use fosibegan_core::plain_std::io::Write;
 
 /// Prints why a line is refused, and the line, unless it is too long.
 pub(crate) fn tell_wrong<W: Write>(line: &Line<'_>, fault: LineFault, output: &mut Output<'_, W>) {

@@ -2,8 +2,8 @@
 
 //! Runs an inspection of lists.
 
-use fosibegan::plain_std::vec::Vec;
-use fosibegan::plain_std::string::String;
+use fosibegan_core::plain_std::vec::Vec;
+use fosibegan_core::plain_std::string::String;
 use crate::checking::check_lists;
 use crate::command_line::Inspection;
 use crate::context::Context;
@@ -18,8 +18,8 @@ use cidr_programs::lines::output::Output;
 use cidr_programs::lists::OpenLists;
 use cidr_programs::program::ending::end;
 use cidr_programs::program::memory::refuse_memory;
-use fosibegan::plain_std::alloc::Global;
-use fosibegan::plain_std::io::Write;
+use fosibegan_core::plain_std::alloc::Global;
+use fosibegan_core::plain_std::io::Write;
 
 /// The exit status if nothing was found.
 const NOTHING_FOUND: u8 = 0;

@@ -2,11 +2,11 @@
 
 //! The lists that a command line names: FILEs, and TEXTs of `-e`, which stand among them.
 
-use fosibegan::plain_std::vec::Vec;
-use fosibegan::plain_std::string::String;
+use fosibegan_core::plain_std::vec::Vec;
+use fosibegan_core::plain_std::string::String;
 use crate::rows::TEXT;
 use cidr_programs::options::items::Item;
-use fosibegan::plain_std::alloc::{AllocError, Global};
+use fosibegan_core::plain_std::alloc::{AllocError, Global};
 
 /// The names of the lists, in their order. A TEXT is named `-e TEXT`, as no FILE is.
 pub(crate) fn lists_of(alloc: Global, items: &[Item<'_>]) -> Result<Vec<String>, AllocError> {

@@ -2,8 +2,8 @@
 
 //! An iterator over the lines of lists, with their numbers.
 
-use fosibegan::plain_std::vec::Vec;
-use fosibegan::plain_std::string::String;
+use fosibegan_core::plain_std::vec::Vec;
+use fosibegan_core::plain_std::string::String;
 use crate::text_lines::TextLines;
 use crate::texts::WholeLists;
 use cidr_programs::program::words::text_at;

@@ -2,13 +2,13 @@
 
 //! Reports which entries of lists overlap.
 
-use fosibegan::plain_std::string::String;
+use fosibegan_core::plain_std::string::String;
 use crate::findings::{either, tell_place};
 use crate::placed::{Key, Placed};
 use cidr_programs::lines::output::Output;
 use cidr_programs::program::messages::tell;
 use cidr_programs::program::words::text_at;
-use fosibegan::plain_std::io::Write;
+use fosibegan_core::plain_std::io::Write;
 
 /// Prints each pair of overlapping entries, given entries in order, and returns whether there is
 /// one. May reorder the entries.

@@ -2,13 +2,13 @@
 
 //! The entries of lists, in order.
 
-use fosibegan::plain_std::vec::Vec;
+use fosibegan_core::plain_std::vec::Vec;
 use crate::entry_match::entry_of;
 use crate::numbered_lines::{Line, NumberedLines};
 use crate::texts::WholeLists;
-use fosibegan::ipnetwork::IpAddr;
+use fosibegan_core::ipnetwork::IpAddr;
 use cidr_programs::lists::Entry;
-use fosibegan::plain_std::alloc::{AllocError, Global};
+use fosibegan_core::plain_std::alloc::{AllocError, Global};
 use std::cmp::Reverse;
 
 /// An address: whether it is an IPv6 address, and its number. Keys are ordered as addresses are.

@@ -10,12 +10,12 @@ use crate::reading::Sets;
 use crate::set_names::SetNames;
 use crate::side_parts::{Parts, sign_of};
 use crate::sweep::Sweep;
-use fosibegan::ipnetwork::{Address, Network};
-use fosibegan::ipnetwork_sets::{AddressSet, Ranges};
+use fosibegan_core::ipnetwork::{Address, Network};
+use fosibegan_core::ipnetwork_sets::{AddressSet, Ranges};
 use cidr_programs::lines::fault::RunFault;
 use cidr_programs::lines::output::Output;
 use cidr_programs::program::putting::put_all;
-use fosibegan::plain_std::io::Write;
+use fosibegan_core::plain_std::io::Write;
 
 /// A request, and the addresses read from the lists of its sides.
 pub(crate) struct Merging<'a> {

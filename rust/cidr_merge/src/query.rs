@@ -2,12 +2,12 @@
 
 //! The addresses that are sought in lists.
 
-use fosibegan::plain_std::vec::Vec;
-use fosibegan::plain_std::string::String;
+use fosibegan_core::plain_std::vec::Vec;
+use fosibegan_core::plain_std::string::String;
 use crate::sought::Sought;
 use crate::sought_places::Place;
-use fosibegan::ipnetwork::IpAddr;
-use fosibegan::plain_std::alloc::Global;
+use fosibegan_core::ipnetwork::IpAddr;
+use fosibegan_core::plain_std::alloc::Global;
 
 /// The addresses that are sought.
 pub(crate) struct Query {

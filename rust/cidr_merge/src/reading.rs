@@ -2,17 +2,17 @@
 
 //! Reads the lists of a side.
 
-use fosibegan::plain_std::string::String;
+use fosibegan_core::plain_std::string::String;
 use crate::context::Context;
 use crate::help::PROGRAM;
 use crate::shapes::{Shape, read_one};
-use fosibegan::ipnetwork::{Ipv4Network, Ipv6Network};
-use fosibegan::ipnetwork_sets::AddressSet;
+use fosibegan_core::ipnetwork::{Ipv4Network, Ipv6Network};
+use fosibegan_core::ipnetwork_sets::AddressSet;
 use cidr_programs::lines::output::Output;
 use cidr_programs::lists::{ListReader, OpenLists, ReadFault, Refusals};
 use cidr_programs::program::ending::FAILED;
 use cidr_programs::program::telling::tell_fault;
-use fosibegan::plain_std::io::Write;
+use fosibegan_core::plain_std::io::Write;
 
 /// The addresses of a side, by family.
 #[derive(Debug)]

@@ -9,10 +9,10 @@ use crate::printing::Merging;
 use crate::reading::{Sets, read_side, refuse_lists};
 use crate::run::answer;
 use crate::set_names::SetNames;
-use fosibegan::plain_std::arrayvec::ArrayString;
-use fosibegan::ipnetwork::{Ipv4Network, Ipv6Network};
-use fosibegan::ipnetwork_addr::decimal::push_number;
-use fosibegan::ipnetwork_sets::AddressSet;
+use fosibegan_core::plain_std::arrayvec::ArrayString;
+use fosibegan_core::ipnetwork::{Ipv4Network, Ipv6Network};
+use fosibegan_core::ipnetwork_addr::decimal::push_number;
+use fosibegan_core::ipnetwork_sets::AddressSet;
 use cidr_programs::lines::output::Output;
 use cidr_programs::lists::{OpenLists, Refusals};
 use cidr_programs::program::ending::FAILED;
@@ -20,7 +20,7 @@ use cidr_programs::program::memory::refuse_memory;
 use cidr_programs::program::messages::{tell, tell_of};
 use cidr_programs::program::telling::{InLists, tell_refusals};
 use cidr_programs::reducing::Reduced;
-use fosibegan::plain_std::io::Write;
+use fosibegan_core::plain_std::io::Write;
 
 /// Reads the lists, prints networks that have all their addresses, and returns the exit status.
 pub(crate) fn reduce<L: OpenLists, W: Write, E: Write>(

@@ -2,12 +2,12 @@
 
 //! Reports which entries of lists share addresses with an earlier one.
 
-use fosibegan::plain_std::string::String;
+use fosibegan_core::plain_std::string::String;
 use crate::findings::either;
 use crate::overlapping::{is_up_to, tell_pair};
 use crate::placed::Placed;
 use cidr_programs::lines::output::Output;
-use fosibegan::plain_std::io::Write;
+use fosibegan_core::plain_std::io::Write;
 
 /// Prints each entry that overlaps an earlier one, with one of those, given entries in order, and
 /// returns whether there is one.

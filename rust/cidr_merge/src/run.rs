@@ -2,7 +2,7 @@
 
 //! A run of the program.
 
-use fosibegan::plain_std::string::String;
+use fosibegan_core::plain_std::string::String;
 use crate::command_line::{Command, Operation, Request, command_of};
 use crate::context::Context;
 use crate::find::find;
@@ -23,8 +23,8 @@ use cidr_programs::program::ending::{FAILED, end, print_text};
 use cidr_programs::program::memory::refuse_memory;
 use cidr_programs::program::start::text_asked;
 use cidr_programs::program::telling::{InLists, tell_refusals};
-use fosibegan::plain_std::alloc::Global;
-use fosibegan::plain_std::io::Write;
+use fosibegan_core::plain_std::alloc::Global;
+use fosibegan_core::plain_std::io::Write;
 
 /// Does what the words after the program's name ask for, and returns the exit status.
 pub(crate) fn run<L: OpenLists, W: Write, E: Write>(

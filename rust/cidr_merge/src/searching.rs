@@ -11,7 +11,7 @@ use crate::sought_places::put_found;
 use crate::texts::WholeLists;
 use cidr_programs::lines::output::Output;
 use cidr_programs::lists::Entry;
-use fosibegan::plain_std::io::Write;
+use fosibegan_core::plain_std::io::Write;
 
 /// What a search wrote.
 #[derive(Clone, Copy, Debug, PartialEq, Eq)]

@@ -3,14 +3,14 @@
 //! The names of the sets that an export fills, their limit, and the texts around each line.
 
 use crate::rows::{AFTER, BEFORE, MAXELEM, SET, TABLE};
-use fosibegan::plain_std::arrayvec::ArrayString;
+use fosibegan_core::plain_std::arrayvec::ArrayString;
 use cidr_programs::lines::fault::RunFault;
 use cidr_programs::lines::output::Output;
 use cidr_programs::options::given::{is_given, value_of};
 use cidr_programs::options::items::Item;
 use cidr_programs::options::values::number_in;
 use cidr_programs::program::putting::put_all;
-use fosibegan::plain_std::io::Write;
+use fosibegan_core::plain_std::io::Write;
 
 /// The greatest length of a name, in bytes: ipset takes 31, and `_ipv4_new` needs nine of them.
 const NAME_MAX: usize = 22;

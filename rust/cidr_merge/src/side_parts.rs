@@ -7,12 +7,12 @@ use crate::cutting::put_network;
 use crate::merge_join::Side;
 use crate::set_names::SetNames;
 use crate::sweep::Sweep;
-use fosibegan::ipnetwork::{Address, CidrNetwork, Network};
-use fosibegan::ipnetwork_sets::{Ranges, SetBlocks};
+use fosibegan_core::ipnetwork::{Address, CidrNetwork, Network};
+use fosibegan_core::ipnetwork_sets::{Ranges, SetBlocks};
 use cidr_programs::lines::fault::RunFault;
 use cidr_programs::lines::output::Output;
 use cidr_programs::program::putting::put_all;
-use fosibegan::plain_std::io::Write;
+use fosibegan_core::plain_std::io::Write;
 
 /// An iterator over parts, in ascending order of their first addresses.
 pub(crate) trait Parts {

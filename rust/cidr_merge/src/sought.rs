@@ -2,16 +2,16 @@
 
 //! The addresses that are sought in lists, each with the text that names it.
 
-use fosibegan::plain_std::vec::Vec;
-use fosibegan::plain_std::string::String;
+use fosibegan_core::plain_std::vec::Vec;
+use fosibegan_core::plain_std::string::String;
 use crate::findings::{either, tell_refused};
 use crate::numbered_lines::{Line, NumberedLines};
 use crate::texts::WholeLists;
-use fosibegan::ipnetwork::IpAddr;
+use fosibegan_core::ipnetwork::IpAddr;
 use cidr_programs::lines::output::Output;
 use cidr_programs::lists::{Blank, EntryFault, LineFault, encoding_of, trim};
-use fosibegan::plain_std::alloc::{AllocError, Global};
-use fosibegan::plain_std::io::Write;
+use fosibegan_core::plain_std::alloc::{AllocError, Global};
+use fosibegan_core::plain_std::io::Write;
 
 /// An address that is sought, and the text that names it.
 pub(crate) struct Sought {

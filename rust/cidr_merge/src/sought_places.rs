@@ -2,13 +2,13 @@
 
 //! The places of addresses that are sought, by number: those that an entry has stand together.
 
-use fosibegan::plain_std::vec::Vec;
+use fosibegan_core::plain_std::vec::Vec;
 use crate::placed::ends_of;
 use crate::query::Query;
 use crate::sought::Sought;
-use fosibegan::ipnetwork::IpAddr;
+use fosibegan_core::ipnetwork::IpAddr;
 use cidr_programs::lists::Entry;
-use fosibegan::plain_std::alloc::{AllocError, Global};
+use fosibegan_core::plain_std::alloc::{AllocError, Global};
 
 /// The number of an address, and its place among those that are sought.
 pub(crate) type Place = (u128, usize);

@@ -2,12 +2,12 @@
 
 //! The words of a command line with `reduce N` spelled out.
 
-use fosibegan::plain_std::vec::Vec;
-use fosibegan::plain_std::string::String;
+use fosibegan_core::plain_std::vec::Vec;
+use fosibegan_core::plain_std::string::String;
 use crate::named_lists::add_name;
 use cidr_programs::options::values::number_in;
 use cidr_programs::program::words::is;
-use fosibegan::plain_std::alloc::{AllocError, Global};
+use fosibegan_core::plain_std::alloc::{AllocError, Global};
 
 /// Whether the words begin with `reduce` and a number, which stands for `--most` and the number.
 pub(crate) fn is_short(words: &[String]) -> bool {

@@ -13,7 +13,7 @@ use cidr_programs::lines::output::Output;
 use cidr_programs::lists::{OpenLists, Refusals};
 use cidr_programs::program::ending::{FAILED, end};
 use cidr_programs::program::telling::{InLists, tell_refusals};
-use fosibegan::plain_std::io::Write;
+use fosibegan_core::plain_std::io::Write;
 
 /// Reads the lists, prints their networks in pieces, and returns the exit status.
 pub(crate) fn split<L: OpenLists, W: Write, E: Write>(

@@ -3,8 +3,8 @@
 //! The blocks of one side that are in an operation's result.
 
 use crate::command_line::Operation;
-use fosibegan::ipnetwork_blocks::AddressSpace;
-use fosibegan::ipnetwork_sets::{AddressSet, Blocks, Difference, Intersection, SetBlocks};
+use fosibegan_core::ipnetwork_blocks::AddressSpace;
+use fosibegan_core::ipnetwork_sets::{AddressSet, Blocks, Difference, Intersection, SetBlocks};
 
 /// An iterator over blocks, in ascending order.
 pub(crate) enum Sweep<'a, N: AddressSpace> {

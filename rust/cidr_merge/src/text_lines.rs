@@ -2,7 +2,7 @@
 
 //! The lines of a text.
 
-use fosibegan::byte_search::find_from;
+use fosibegan_core::byte_search::find_from;
 
 /// An iterator over the lines of a text, without their line endings.
 #[derive(Clone, Copy, Debug)]

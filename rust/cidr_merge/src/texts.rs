@@ -2,8 +2,8 @@
 
 //! Reads whole lists.
 
-use fosibegan::plain_std::vec::Vec;
-use fosibegan::plain_std::string::String;
+use fosibegan_core::plain_std::vec::Vec;
+use fosibegan_core::plain_std::string::String;
 use crate::context::Context;
 use crate::named_lists::text_in;
 use cidr_programs::lists::{BytesFault, OpenLists, ReadFault, read_bytes};

@@ -2,7 +2,7 @@
 
 //! The words of a command line.
 
-use fosibegan::plain_std::string::String;
+use fosibegan_core::plain_std::string::String;
 use cidr_programs::program::words::is;
 
 /// Returns the index of the first word equal to this text, or the number of words if there is none.

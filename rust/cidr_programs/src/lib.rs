@@ -19,5 +19,5 @@ pub mod reducing;
 #[allow(ambiguous_glob_reexports)]
 pub mod in_examples {
     pub use crate::{line_addresses::*, lines::*, lists::*, log_programs::*, options::*, program::*, reducing::*, *};
-    pub use fosibegan::in_examples::*;
+    pub use fosibegan_core::in_examples::*;
 }

@@ -1,77 +1,20 @@
-//! IP networks in CIDR notation: read from texts, printed, and asked about the set of addresses that they stand for;
-//! with routing tables, blocks, aggregation, sets of addresses and indexes for fast look-ups.
-//!
-//! Made of proved sources, and tested: each module below but [`plain_std`] is written, by taking away contracts and what
-//! is only for proofs, out of a crate of which every function is proved to meet its contract.
-//!
-//! ```
-//! use fosibegan::plain_std::alloc::Global;
-//! use fosibegan::{Ipv4Network, PrefixTable};
-//!
-//! # fosibegan::in_examples::ended(|| {
-//! let network: Ipv4Network = "10.1.9.32/8".parse()?;
-//! assert!(network.contains("10.255.255.255".parse()?));
-//!
-//! let mut table = PrefixTable::new(Global);
-//! table.insert(network, "inside")?;
-//! assert_eq!(table.lookup("10.1.2.3".parse()?), Some(("10.0.0.0/8".parse()?, "inside")));
-//! # Ok(())
-//! # });
-//! ```
-//!
-//! What allocates is given [`plain_std::alloc::Global`], and tells with an `AllocError` that there is no memory.
+//! IP networks in CIDR notation, sets of addresses and longest-prefix maps, over the addresses of `std::net`.
 #![no_std]
-#![deny(unsafe_code)]
-// The sources have the forms that their proofs need.
-#![allow(unused_imports, unused_labels, unused_variables, dead_code)]
-#![allow(clippy::complexity, clippy::style, clippy::large_enum_variant, clippy::non_canonical_clone_impl)]
+#![deny(missing_docs)]
+#![forbid(unsafe_code)]
 
-extern crate alloc as rust_alloc;
-#[cfg(feature = "std")]
-extern crate std;
+extern crate alloc;
 
-/// Items that are there only if this library does not link std.
-#[doc(hidden)]
-#[macro_export]
-#[cfg(not(feature = "std"))]
-macro_rules! without_std {
-    ($($item:item)*) => { $($item)* };
-}
-#[doc(hidden)]
-#[macro_export]
-#[cfg(feature = "std")]
-macro_rules! without_std {
-    ($($item:item)*) => {};
-}
+mod convert;
+mod error;
+mod map;
+mod network;
+mod set;
 
-#[doc(hidden)]
-pub mod byte_search;
-pub mod ipnetwork;
-pub mod ipnetwork_addr;
-pub mod ipnetwork_blocks;
-pub mod ipnetwork_family;
-pub mod ipnetwork_index;
-pub mod ipnetwork_sets;
-pub mod ipnetwork_table;
-pub mod plain_std;
-
-pub use ipnetwork::*;
-pub use ipnetwork_blocks::*;
-pub use ipnetwork_index::*;
-pub use ipnetwork_sets::*;
-pub use ipnetwork_table::*;
-
-/// What the examples have in scope.
-#[doc(hidden)]
-pub mod in_examples {
-    pub use crate::plain_std::alloc::Global;
-    #[cfg(feature = "std")]
-    pub use crate::plain_std::rt::HostRuntime;
-    #[cfg(feature = "serde")]
-    pub use crate::plain_std::serde_json::{self, OfKit as _};
-    pub use crate::plain_std::string::{String, ToString as _};
-    pub use crate::plain_std::test::{Fail, ended};
-    pub use crate::plain_std::vec::{Concat, ToVec, Vec};
-    pub use crate::plain_std::{KitClone, format, vec};
-    pub use crate::{byte_search::*, ipnetwork_addr::*, ipnetwork_family::*, *};
-}
+pub use error::{IpNetworkError, NetworkSizeError};
+pub use map::PrefixMap;
+pub use network::{
+    IpNetwork, IpNetworkIterator, Ipv4Network, Ipv4NetworkIterator, Ipv6Network, Ipv6NetworkIterator, Network,
+    NetworkSize, ip_mask_to_prefix, ipv4_mask_to_prefix, ipv6_mask_to_prefix,
+};
+pub use set::AddressSet;

@@ -5,7 +5,7 @@
 use crate::fault::{ADDRESS, NO_FAMILY, NO_MEMBER, OK};
 use crate::structs::address_of;
 use crate::text;
-use fosibegan::ipnetwork::{IpAddr, Ipv4Addr};
+use fosibegan_core::ipnetwork::{IpAddr, Ipv4Addr};
 
 /// An address of either family as C holds it: its octets in network order, and their number.
 #[repr(C)]

@@ -5,8 +5,8 @@
 use crate::fault::{OK, PREFIX};
 use crate::listed::all_fit;
 use crate::structs::{Ipv4InC, Ipv6InC};
-use fosibegan::ipnetwork::{Ipv4Network, Ipv6Network};
-use fosibegan::ipnetwork_blocks::aggregate_held;
+use fosibegan_core::ipnetwork::{Ipv4Network, Ipv6Network};
+use fosibegan_core::ipnetwork_blocks::aggregate_held;
 
 /// Replaces the networks, which may have host bits, by their aggregate, at the front of the list:
 /// the fewest blocks with the same addresses, in ascending order. Writes the number of blocks to

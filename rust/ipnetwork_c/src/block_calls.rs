@@ -5,7 +5,7 @@
 use crate::fault::{NO_MEMBER, NO_RANGE, OK, PREFIX, SHORT_BUFFER};
 use crate::structs::{Ipv4InC, Ipv6InC, number_of};
 use crate::writing::{put_blocks, to_usize};
-use fosibegan::ipnetwork_blocks::{
+use fosibegan_core::ipnetwork_blocks::{
     AddressSpace, HoldsNetwork, RangeBlocks, range_to_blocks, subnet_at,
 };
 

@@ -12,7 +12,7 @@ use crate::search_columns::{ranges_find_each, table_find_each, v4_contains, v6_c
 use crate::structs::{IpInC, IpWithCauseInC, Ipv4InC, Ipv6InC};
 use crate::text_columns::read_rows;
 use crate::{columns, halves};
-use fosibegan::ipnetwork::{Ipv4Network, Ipv6Network};
+use fosibegan_core::ipnetwork::{Ipv4Network, Ipv6Network};
 
 /// For each address, writes to `answers` at the same index 1 if the address is in the network, else
 /// 0. The rest of `answers` is unchanged. Returns `PREFIX` if the prefix length is greater than 32,

@@ -4,7 +4,7 @@
 
 use crate::fault::{OK, PREFIX, SHORT_BUFFER};
 use crate::numbered::Numbered;
-use fosibegan::ipnetwork_blocks::AddressSpace;
+use fosibegan_core::ipnetwork_blocks::AddressSpace;
 
 /// For each address, writes 1 if it is in the network's set, else 0.
 #[inline(always)]

@@ -4,7 +4,7 @@
 
 use crate::fault::{self, NO_FAMILY, OK, PREFIX};
 use crate::structs::{IpInC, V4, V6, address_of};
-use fosibegan::ipnetwork::{
+use fosibegan_core::ipnetwork::{
     Address, CidrFault, IpAddr, IpNetwork, Ipv4Addr, Ipv6Addr, Ipv6Network, cause,
 };
 

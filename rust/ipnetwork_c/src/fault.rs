@@ -3,7 +3,7 @@
 //! The numbers of faults, as the header names them.
 
 use crate::text;
-use fosibegan::ipnetwork::CidrFault;
+use fosibegan_core::ipnetwork::CidrFault;
 
 pub(crate) const OK: u32 = 0;
 

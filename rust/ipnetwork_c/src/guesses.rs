@@ -5,7 +5,7 @@
 
 use crate::search_hint::SearchHint;
 use crate::upper_bound::guess_by_three;
-use fosibegan::ipnetwork_blocks::AddressSpace;
+use fosibegan_core::ipnetwork_blocks::AddressSpace;
 
 // The number of rows for which guesses are made at once.
 const ROWS: usize = 64;

@@ -6,9 +6,9 @@ use crate::fault::{NO_SET, OK, PREFIX};
 use crate::listed::all_fit;
 use crate::numbered::Numbered;
 use crate::structs::{Ipv4InC, Ipv6InC};
-use fosibegan::ipnetwork::{Ipv4Network, Ipv6Network};
-use fosibegan::ipnetwork_blocks::AddressSpace;
-use fosibegan::ipnetwork_sets::is_address_set;
+use fosibegan_core::ipnetwork::{Ipv4Network, Ipv6Network};
+use fosibegan_core::ipnetwork_blocks::AddressSpace;
+use fosibegan_core::ipnetwork_sets::is_address_set;
 
 /// Writes to `index_length` how many numbers an index of `block_count` blocks should have: four for
 /// each block, but at most 2^20. A shorter index makes a search slower, a longer one hardly faster.

@@ -10,9 +10,9 @@ use crate::printed_columns::PrintsRow;
 use crate::search_hint::SearchHint;
 use crate::structs::{Ipv4InC, number_of_four};
 use crate::text_columns::ReadsRow;
-use fosibegan::plain_std::arrayvec::ArrayString;
-use fosibegan::ipnetwork::{Ipv4Addr, Ipv4Network, NETWORK_TEXT_CAPACITY};
-use fosibegan::ipnetwork_blocks::HoldsNetwork;
+use fosibegan_core::plain_std::arrayvec::ArrayString;
+use fosibegan_core::ipnetwork::{Ipv4Addr, Ipv4Network, NETWORK_TEXT_CAPACITY};
+use fosibegan_core::ipnetwork_blocks::HoldsNetwork;
 use core::cmp::Ordering;
 
 impl Ipv4InC {

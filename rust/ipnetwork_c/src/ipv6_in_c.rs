@@ -10,9 +10,9 @@ use crate::printed_columns::PrintsRow;
 use crate::search_hint::SearchHint;
 use crate::structs::{Ipv6InC, address_of, number_of};
 use crate::text_columns::ReadsRow;
-use fosibegan::plain_std::arrayvec::ArrayString;
-use fosibegan::ipnetwork::{Ipv6Addr, Ipv6Network, NETWORK_TEXT_CAPACITY};
-use fosibegan::ipnetwork_blocks::HoldsNetwork;
+use fosibegan_core::plain_std::arrayvec::ArrayString;
+use fosibegan_core::ipnetwork::{Ipv6Addr, Ipv6Network, NETWORK_TEXT_CAPACITY};
+use fosibegan_core::ipnetwork_blocks::HoldsNetwork;
 use core::cmp::Ordering;
 
 impl Ipv6InC {

@@ -7,7 +7,7 @@ use crate::block_calls::range;
 use crate::set_operations::{Operation, operate};
 use crate::structs::{Ipv4InC, Ipv6InC, PlaceInC, address_of};
 use crate::{lists, ranges, sets, tables};
-use fosibegan::ipnetwork::{Ipv4Addr, Ipv4Network, Ipv6Network};
+use fosibegan_core::ipnetwork::{Ipv4Addr, Ipv4Network, Ipv6Network};
 
 /// Writes to `answer` 1 if an address is in one of these networks, else 0, also if there are no
 /// networks. Returns `PREFIX` if a prefix length is greater than 32.

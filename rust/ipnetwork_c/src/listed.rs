@@ -2,7 +2,7 @@
 
 //! The C structs as items of a list in the caller's memory: their prefix lengths are unchecked.
 
-use fosibegan::ipnetwork_blocks::{AddressSpace, HoldsNetwork};
+use fosibegan_core::ipnetwork_blocks::{AddressSpace, HoldsNetwork};
 
 /// A C struct in a list.
 pub(crate) trait Listed<N: AddressSpace>: HoldsNetwork<N> {

@@ -4,7 +4,7 @@
 
 use crate::fault::{OK, PREFIX};
 use crate::listed::{Listed, all_fit};
-use fosibegan::ipnetwork_blocks::AddressSpace;
+use fosibegan_core::ipnetwork_blocks::AddressSpace;
 
 /// Writes 1 if an address is in the set of one of the networks, else 0, or returns `PREFIX` if a
 /// prefix length does not fit.

@@ -4,7 +4,7 @@
 
 use crate::structs::{Ipv4InC, Ipv6InC};
 use crate::{range_making, table_making};
-use fosibegan::ipnetwork::{Ipv4Network, Ipv6Network};
+use fosibegan_core::ipnetwork::{Ipv4Network, Ipv6Network};
 
 /// Makes a table of networks, in any order and with or without host bits: writes their blocks in
 /// ascending order to the front of `blocks`, and for each block the index of its network to the

@@ -7,8 +7,8 @@ use crate::order::number_of_order;
 use crate::structs::{Ipv4InC, Ipv6InC, address_of};
 use crate::text;
 use crate::text_columns::ReadsRow;
-use fosibegan::ipnetwork::Ipv4Addr;
-use fosibegan::ipnetwork_family::Address;
+use fosibegan_core::ipnetwork::Ipv4Addr;
+use fosibegan_core::ipnetwork_family::Address;
 
 /// Reads the network that a text names, as `Ipv4Network::read_bytes` does, and writes it to
 /// `network`. If the text names none, returns `FORMAT`, `ADDRESS` or `PREFIX`, the first that

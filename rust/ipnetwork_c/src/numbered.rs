@@ -4,7 +4,7 @@
 //! branch.
 
 use crate::listed::Listed;
-use fosibegan::ipnetwork_blocks::AddressSpace;
+use fosibegan_core::ipnetwork_blocks::AddressSpace;
 
 /// A C struct whose address is compared as a number.
 pub(crate) trait Numbered<N: AddressSpace>: Listed<N> {

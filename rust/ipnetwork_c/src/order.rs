@@ -2,7 +2,7 @@
 
 //! Orders as numbers.
 
-use fosibegan::ipnetwork::IpNetwork;
+use fosibegan_core::ipnetwork::IpNetwork;
 use core::cmp::Ordering;
 
 /// Returns -1, 0 or 1 for less, equal or greater.

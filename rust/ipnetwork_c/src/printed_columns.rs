@@ -7,8 +7,8 @@ use crate::address::AddressInC;
 use crate::fault::{NO_FAMILY, OK, SHORT_BUFFER};
 use crate::structs::{IpInC, V4};
 use crate::writing::to_usize;
-use fosibegan::plain_std::arrayvec::ArrayString;
-use fosibegan::ipnetwork::NETWORK_TEXT_CAPACITY;
+use fosibegan_core::plain_std::arrayvec::ArrayString;
+use fosibegan_core::ipnetwork::NETWORK_TEXT_CAPACITY;
 
 /// A row that can be printed.
 pub(crate) trait PrintsRow {

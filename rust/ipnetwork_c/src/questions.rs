@@ -9,7 +9,7 @@ use crate::fault::OK;
 use crate::order::number_between;
 use crate::structs::IpInC;
 use crate::text;
-use fosibegan::ipnetwork::IpNetwork;
+use fosibegan_core::ipnetwork::IpNetwork;
 
 // Writes what `told` returns for the network that a struct represents.
 #[inline(always)]

@@ -7,7 +7,7 @@ use crate::fault::{OK, PREFIX, SHORT_BUFFER};
 use crate::listed::all_fit;
 use crate::search_hint::SearchHint;
 use crate::tables::find;
-use fosibegan::ipnetwork_blocks::AddressSpace;
+use fosibegan_core::ipnetwork_blocks::AddressSpace;
 
 /// The place that means no block.
 pub(crate) const NO_PLACE: usize = usize::MAX;

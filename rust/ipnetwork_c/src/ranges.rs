@@ -7,7 +7,7 @@ use crate::fault::{NO_MEMBER, OK};
 use crate::range_making::NO_PLACE;
 use crate::search_hint::SearchHint;
 use crate::upper_bound::{guess_by_three, upper_bound_at_once, upper_bound_by_halves};
-use fosibegan::ipnetwork_blocks::AddressSpace;
+use fosibegan_core::ipnetwork_blocks::AddressSpace;
 
 /// Returns the place of the last range that begins at or before an address, by an index of the
 /// ranges, or by none; `NO_PLACE` if there is no such range.

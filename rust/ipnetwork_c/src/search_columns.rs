@@ -9,8 +9,8 @@ use crate::ranges::place_near;
 use crate::search_hint::SearchHint;
 use crate::structs::{Ipv4InC, Ipv6InC, number_of_four};
 use crate::{sets, tables};
-use fosibegan::ipnetwork::{Ipv4Network, Ipv6Network};
-use fosibegan::ipnetwork_blocks::AddressSpace;
+use fosibegan_core::ipnetwork::{Ipv4Network, Ipv6Network};
+use fosibegan_core::ipnetwork_blocks::AddressSpace;
 
 /// Returns the fault of the call that searches a set for one address, as a byte, with a guess of
 /// where the search ends.

@@ -4,7 +4,7 @@
 //! search uses this to guess in few steps where it ends, and then checks the guess.
 
 use crate::numbered::Numbered;
-use fosibegan::ipnetwork_blocks::AddressSpace;
+use fosibegan_core::ipnetwork_blocks::AddressSpace;
 
 /// A C struct of which a few bits mostly decide whether it begins at or before a number.
 pub(crate) trait SearchHint<N: AddressSpace>: Numbered<N> {

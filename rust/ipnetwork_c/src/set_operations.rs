@@ -5,8 +5,8 @@
 use crate::fault::{NO_SET, OK, PREFIX, SHORT_BUFFER};
 use crate::listed::{Listed, all_fit};
 use crate::writing::{put_blocks, to_usize};
-use fosibegan::ipnetwork_blocks::AddressSpace;
-use fosibegan::ipnetwork_sets::{Difference, Intersection, Union, is_address_set};
+use fosibegan_core::ipnetwork_blocks::AddressSpace;
+use fosibegan_core::ipnetwork_sets::{Difference, Intersection, Union, is_address_set};
 
 /// An operation on two sets.
 #[derive(Clone, Copy)]

@@ -7,7 +7,7 @@ use crate::fault::{OK, PREFIX};
 use crate::numbered::Numbered;
 use crate::search_hint::SearchHint;
 use crate::upper_bound::{guess_by_last, upper_bound_at_once, upper_bound_by_halves};
-use fosibegan::ipnetwork_blocks::AddressSpace;
+use fosibegan_core::ipnetwork_blocks::AddressSpace;
 
 /// Writes 1 if an address is in the set of a list, else 0, by an index of the list, or by none. If
 /// the list is not the list of a set, an address may be missed. Returns `PREFIX` if the prefix

@@ -5,8 +5,8 @@
 
 use crate::fault::{NO_MEMBER, OK, PREFIX};
 use crate::structs::{Ipv4InC, Ipv6InC, address_of};
-use fosibegan::ipnetwork::{Ipv4Addr, Ipv4Network, Ipv6Addr, Ipv6Network};
-use fosibegan::ipnetwork_family::{Address, Network};
+use fosibegan_core::ipnetwork::{Ipv4Addr, Ipv4Network, Ipv6Addr, Ipv6Network};
+use fosibegan_core::ipnetwork_family::{Address, Network};
 
 /// An address as a number of a type that every address fits.
 pub(crate) trait Numbered: Address {

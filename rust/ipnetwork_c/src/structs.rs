@@ -3,8 +3,8 @@
 //! The structs of the header, and the networks that they represent.
 
 use crate::fault::{NO_FAMILY, PREFIX};
-use fosibegan::ipnetwork::{IpNetwork, Ipv6Addr, Ipv6Network};
-use fosibegan::plain_std::simd::prelude::*;
+use fosibegan_core::ipnetwork::{IpNetwork, Ipv6Addr, Ipv6Network};
+use fosibegan_core::plain_std::simd::prelude::*;
 
 /// An IPv4 network as C holds it. Its prefix length is unchecked.
 #[repr(C)]

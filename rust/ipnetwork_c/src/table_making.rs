@@ -4,7 +4,7 @@
 
 use crate::fault::{OK, PREFIX, SHORT_BUFFER};
 use crate::listed::{Listed, all_fit};
-use fosibegan::ipnetwork_blocks::AddressSpace;
+use fosibegan_core::ipnetwork_blocks::AddressSpace;
 use core::cmp::Ordering;
 
 /// Sorts the places of the networks by their blocks, and puts the blocks in that order.

@@ -5,7 +5,7 @@
 use crate::fault::{NO_MEMBER, OK, PREFIX};
 use crate::search_hint::SearchHint;
 use crate::upper_bound::upper_bound;
-use fosibegan::ipnetwork_blocks::AddressSpace;
+use fosibegan_core::ipnetwork_blocks::AddressSpace;
 
 /// Puts the place of the longest block with an address in `place`, by an index of the blocks, or by
 /// none. If the last block that begins at or before the address does not have it, a block that does

@@ -3,7 +3,7 @@
 //! Puts texts into a C buffer.
 
 use crate::fault::{OK, SHORT_BUFFER};
-use fosibegan::ipnetwork::{IpAddr, IpNetwork};
+use fosibegan_core::ipnetwork::{IpAddr, IpNetwork};
 
 /// Puts a text at the front of a buffer, with a zero byte after it. Nothing else changes. Returns
 /// `false` if there is no room, and then nothing changes.

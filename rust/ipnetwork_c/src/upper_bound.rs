@@ -4,7 +4,7 @@
 
 use crate::numbered::Numbered;
 use crate::search_hint::SearchHint;
-use fosibegan::ipnetwork_blocks::AddressSpace;
+use fosibegan_core::ipnetwork_blocks::AddressSpace;
 
 /// Returns how many structs of an ascending list begin at or before the number; for any other list,
 /// a number of structs of which the last does, and the next does not. The index only says where the

@@ -5,7 +5,7 @@
 extern crate std;
 
 #[cfg(not(any(test, panic = "unwind", not(any(target_os = "linux", target_family = "wasm")))))]
-fosibegan::without_std! {
+fosibegan_core::without_std! {
     use core::alloc::{GlobalAlloc, Layout};
 
     /// Ends the process.

@@ -2,7 +2,7 @@
 
 //! Puts blocks into a list in the caller's memory, one after the other, and counts them.
 
-use fosibegan::ipnetwork_blocks::{AddressSpace, HoldsNetwork};
+use fosibegan_core::ipnetwork_blocks::{AddressSpace, HoldsNetwork};
 
 /// Returns the number, or 2^64 - 1 if that is less.
 pub(crate) fn to_usize(number: u128) -> usize {

@@ -1,4 +1,4 @@
-//! Makes random calls of `fosibegan::plain_std::arrayvec` and of the crate `arrayvec`, side by side, and compares what
+//! Makes random calls of `fosibegan_core::plain_std::arrayvec` and of the crate `arrayvec`, side by side, and compares what
 //! each call gives and what is kept then. A call that panics is one where both have to.
 //!
 //!     beside_arrayvec [SEQUENCES]
@@ -8,9 +8,9 @@
 use std::fmt::{Debug, Write as _};
 use std::panic::{catch_unwind, AssertUnwindSafe};
 
-use fosibegan::plain_std::arrayvec as stand_in;
+use fosibegan_core::plain_std::arrayvec as stand_in;
 
-const SOURCE: &str = include_str!("../../../fosibegan/src/plain_std/arrayvec.rs");
+const SOURCE: &str = include_str!("../../../fosibegan_core/src/plain_std/arrayvec.rs");
 /// The public calls of the stand-in, each of which is made below.
 const CALLS: [&str; 14] = [
     "as_bytes",

@@ -1,4 +1,4 @@
-//! Reads documents by `fosibegan::plain_std::json` and by the crate `serde_json`, and compares what is refused, at which
+//! Reads documents by `fosibegan_core::plain_std::json` and by the crate `serde_json`, and compares what is refused, at which
 //! line, and the strings of what is not; then counts the memory that long documents take.
 //!
 //!     beside_serde_json [MUTATIONS]
@@ -6,12 +6,12 @@
 //! MUTATIONS is how many documents are made by random changes, 300,000 where it is not given.
 
 mod memory;
-#[path = "../../../fosibegan/src/plain_std/json/tests/rows.rs"]
+#[path = "../../../fosibegan_core/src/plain_std/json/tests/rows.rs"]
 mod rows;
 mod shapes;
 
-use fosibegan::plain_std::alloc::Global;
-use fosibegan::plain_std::json;
+use fosibegan_core::plain_std::alloc::Global;
+use fosibegan_core::plain_std::json;
 use serde_json::Value;
 
 /// What is put into documents.

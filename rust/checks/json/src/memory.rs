@@ -1,8 +1,8 @@
 //! Counts the memory that a document takes.
 
 use crate::shapes;
-use fosibegan::plain_std::alloc::Global;
-use fosibegan::plain_std::json::Value;
+use fosibegan_core::plain_std::alloc::Global;
+use fosibegan_core::plain_std::json::Value;
 use std::alloc::{GlobalAlloc, Layout, System};
 use std::sync::atomic::{AtomicUsize, Ordering::Relaxed};
 

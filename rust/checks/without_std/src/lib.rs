@@ -5,10 +5,10 @@
 use core::alloc::{GlobalAlloc, Layout};
 use core::slice;
 
-use fosibegan::ipnetwork_index::AddressIndex;
-use fosibegan::plain_std::alloc::Global;
-use fosibegan::plain_std::vec::Vec;
-use fosibegan::{AddressSet, IpNetwork, Ipv4Network, PrefixTable};
+use fosibegan_core::ipnetwork_index::AddressIndex;
+use fosibegan_core::plain_std::alloc::Global;
+use fosibegan_core::plain_std::vec::Vec;
+use fosibegan_core::{AddressSet, IpNetwork, Ipv4Network, PrefixTable};
 
 #[panic_handler]
 fn panic(_: &core::panic::PanicInfo<'_>) -> ! {

@@ -5,8 +5,8 @@
 use crate::commands::REFUSED;
 use crate::commands::reading::network_of;
 use crate::replies::{ANSWER_MAX, Answer, reply};
-use fosibegan::ipnetwork::IpNetwork;
-use fosibegan::ipnetwork::decimal::push_number;
+use fosibegan_core::ipnetwork::IpNetwork;
+use fosibegan_core::ipnetwork::decimal::push_number;
 use cidr_programs::lines::buffer::Buffer;
 
 /// `ends`: the lowest and highest address of a network, its mask and its size.

@@ -4,7 +4,7 @@
 
 use crate::commands::reading::{address_of, network_of};
 use crate::replies::reply;
-use fosibegan::ipnetwork::{Ipv4Addr, Ipv4Network};
+use fosibegan_core::ipnetwork::{Ipv4Addr, Ipv4Network};
 use cidr_programs::lines::buffer::Buffer;
 
 /// The answers if a text names no network or no address.

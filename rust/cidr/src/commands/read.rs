@@ -5,7 +5,7 @@
 use crate::commands::REFUSED;
 use crate::commands::reading::network_of;
 use crate::replies::reply;
-use fosibegan::ipnetwork::{CidrFault, Ipv4Network, Ipv6Network};
+use fosibegan_core::ipnetwork::{CidrFault, Ipv4Network, Ipv6Network};
 use cidr_programs::lines::buffer::Buffer;
 
 /// `read`: the canonical text of a network of either family.

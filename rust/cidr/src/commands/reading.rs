@@ -2,7 +2,7 @@
 
 //! Reads the network or address that a text names, as the definitions compute it.
 
-use fosibegan::ipnetwork::{CidrFault, IpAddr, IpNetwork};
+use fosibegan_core::ipnetwork::{CidrFault, IpAddr, IpNetwork};
 
 /// Returns the network of either family that a text names.
 #[inline(always)]

@@ -5,7 +5,7 @@
 use crate::commands::REFUSED;
 use crate::commands::reading::network_of;
 use crate::replies::reply;
-use fosibegan::ipnetwork::IpNetwork;
+use fosibegan_core::ipnetwork::IpNetwork;
 use cidr_programs::lines::buffer::Buffer;
 
 /// `rel`: how the sets of two networks are related.

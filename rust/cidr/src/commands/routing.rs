@@ -6,9 +6,9 @@ use crate::commands::REFUSED;
 use crate::commands::reading::{address_of, network_of};
 use crate::replies::{Answer, reply};
 use crate::route_tables::RouteTables;
-use fosibegan::ipnetwork::decimal::push_number;
-use fosibegan::ipnetwork::parse::read_number;
-use fosibegan::ipnetwork::IpNetwork;
+use fosibegan_core::ipnetwork::decimal::push_number;
+use fosibegan_core::ipnetwork::parse::read_number;
+use fosibegan_core::ipnetwork::IpNetwork;
 use cidr_programs::lines::buffer::Buffer;
 
 /// The answer if no block contains the address.

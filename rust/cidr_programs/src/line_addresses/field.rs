@@ -2,7 +2,7 @@
 
 //! The fields of a line.
 
-use fosibegan::byte_search::find_from;
+use fosibegan_core::byte_search::find_from;
 
 /// Returns the field with this number, from 1 on, of a line that is split at each separator, or
 /// `None` if the line has fewer fields. The number 0 counts as 1.

@@ -2,7 +2,7 @@
 
 //! What follows a text in a line.
 
-use fosibegan::byte_search::find_from;
+use fosibegan_core::byte_search::find_from;
 
 /// Returns what follows the first occurrence of a text in a line, or `None` if there is none. Each
 /// position of the text's first byte is tried, so the time is at most proportional to the product

@@ -3,7 +3,7 @@
 //! The next address of a line.
 
 use crate::line_addresses::run::{address_in, run_end};
-use fosibegan::ipnetwork_addr::IpAddr;
+use fosibegan_core::ipnetwork_addr::IpAddr;
 
 /// An address of a line, and the position of its text.
 #[derive(Clone, Copy, Debug, PartialEq, Eq)]

@@ -3,8 +3,8 @@
 //! The network of a stretch.
 
 use crate::line_addresses::run::ends_with_mark;
-use fosibegan::byte_search::find_from;
-use fosibegan::ipnetwork::{IpAddr, IpNetwork};
+use fosibegan_core::byte_search::find_from;
+use fosibegan_core::ipnetwork::{IpAddr, IpNetwork};
 
 /// Returns the address of the network that a stretch with a `/` names, and the length of the
 /// network's text: all of the stretch, or all but a `.` or `:` at its end.

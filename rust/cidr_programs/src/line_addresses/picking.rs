@@ -7,7 +7,7 @@ use crate::line_addresses::found::Found;
 use crate::line_addresses::network::named_network;
 use crate::line_addresses::run::address_of;
 use crate::line_addresses::stretches::next_found;
-use fosibegan::ipnetwork_addr::IpAddr;
+use fosibegan_core::ipnetwork_addr::IpAddr;
 
 /// Returns the address that is picked from a part of a line, or the first of several; or `None` if
 /// there is none. If `networks`, networks count too. The part is scanned at most once.

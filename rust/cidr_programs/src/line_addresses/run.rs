@@ -4,8 +4,8 @@
 
 use crate::line_addresses::byte_kind::{is_address_byte, is_run_byte};
 use crate::line_addresses::port::is_port;
-use fosibegan::byte_search::find_from;
-use fosibegan::ipnetwork_addr::IpAddr;
+use fosibegan_core::byte_search::find_from;
+use fosibegan_core::ipnetwork_addr::IpAddr;
 
 /// Returns the index after the run bytes that begin at `start`.
 #[inline(always)]

@@ -5,8 +5,8 @@
 use crate::lines::fault::RunFault;
 use crate::lines::line_end::{Cut, LineEnd, cut_before};
 use crate::lines::watched::Watched;
-use fosibegan::byte_search::find_far;
-use fosibegan::plain_std::io::Read;
+use fosibegan_core::byte_search::find_far;
+use fosibegan_core::plain_std::io::Read;
 
 /// What `LineBuffer::next` returns.
 ///

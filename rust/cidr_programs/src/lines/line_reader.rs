@@ -5,7 +5,7 @@
 use crate::lines::fault::RunFault;
 use crate::lines::line_buffer::{LineBuffer, NextLine};
 use crate::lines::watched::Watched;
-use fosibegan::plain_std::io::Read;
+use fosibegan_core::plain_std::io::Read;
 
 /// A device, and a `LineBuffer` of the bytes read from it.
 ///

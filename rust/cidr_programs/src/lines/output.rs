@@ -6,7 +6,7 @@ use crate::lines::buffer::Buffer;
 use crate::lines::fault::RunFault;
 use crate::lines::watched::device::Device;
 use crate::lines::writing::{hand_on, write_whole};
-use fosibegan::plain_std::io::Write;
+use fosibegan_core::plain_std::io::Write;
 
 /// A writer, and the bytes that wait to be written, in a slice that the caller lends.
 ///

@@ -6,8 +6,8 @@ pub(crate) mod device;
 mod whole;
 
 use crate::lines::watched::device::Device;
-use fosibegan::plain_std::io;
-use fosibegan::plain_std::io::{Read, Write};
+use fosibegan_core::plain_std::io;
+use fosibegan_core::plain_std::io::{Read, Write};
 
 /// A reader or a writer, and whether a call of it through this value has failed.
 ///
@@ -120,7 +120,7 @@ impl<D: Write> Watched<D> {
     ///
     /// ```
     /// # use cidr_programs::in_examples::*;
-    /// let mut writer = cidr_programs::lines::watched::Watched::new(fosibegan::plain_std::io::sink());
+    /// let mut writer = cidr_programs::lines::watched::Watched::new(fosibegan_core::plain_std::io::sink());
     /// assert!(writer.flush().is_ok());
     /// assert!(!writer.failed());
     /// ```

@@ -5,7 +5,7 @@
 use crate::lines::buffer::Buffer;
 use crate::lines::fault::RunFault;
 use crate::lines::watched::device::Device;
-use fosibegan::plain_std::io::Write;
+use fosibegan_core::plain_std::io::Write;
 
 /// Writes the bytes that wait, and removes them from the buffer.
 pub(crate) fn hand_on<W: Write>(

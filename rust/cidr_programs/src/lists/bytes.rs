@@ -2,12 +2,12 @@
 
 //! Reads all bytes of a list.
 
-use fosibegan::plain_std::vec::Vec;
+use fosibegan_core::plain_std::vec::Vec;
 use crate::lists::open_lists::OpenLists;
 use crate::lists::opening::{OpenFault, open_list};
 use crate::lines::watched::Watched;
-use fosibegan::plain_std::alloc::Global;
-use fosibegan::plain_std::io::Read;
+use fosibegan_core::plain_std::alloc::Global;
+use fosibegan_core::plain_std::io::Read;
 
 /// The number of bytes that are read at once.
 const CHUNK_LEN: usize = 65536;

@@ -2,7 +2,7 @@
 
 //! Removes the comment of a line.
 
-use fosibegan::byte_search::find_from;
+use fosibegan_core::byte_search::find_from;
 
 /// Returns what stands before the first `#` or `;` of a line, or the whole line if it has neither.
 pub(crate) fn without_comment(line: &[u8]) -> &[u8] {

@@ -7,8 +7,8 @@ use crate::lists::list_reader::ListReader;
 use crate::lists::named::ReadFault;
 use crate::lists::open_lists::OpenLists;
 use crate::lists::strings::take_value;
-use fosibegan::plain_std::json::Value;
-use fosibegan::plain_std::alloc::Global;
+use fosibegan_core::plain_std::json::Value;
+use fosibegan_core::plain_std::alloc::Global;
 
 /// The most bytes of a document.
 ///

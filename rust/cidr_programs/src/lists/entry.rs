@@ -6,8 +6,8 @@ use crate::lists::comment::without_comment;
 use crate::lists::encoding::{Encoding, encoding_of};
 use crate::lists::range::read_range;
 use crate::lists::trimming::{Blank, trim};
-use fosibegan::byte_search::find_from;
-use fosibegan::ipnetwork::{CidrFault, IpAddr, IpNetwork, cause};
+use fosibegan_core::byte_search::find_from;
+use fosibegan_core::ipnetwork::{CidrFault, IpAddr, IpNetwork, cause};
 
 /// What a line of a list names: addresses of one family.
 ///

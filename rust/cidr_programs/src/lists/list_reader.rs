@@ -2,14 +2,14 @@
 
 //! Collects what is read of lists.
 
-use fosibegan::plain_std::vec::Vec;
+use fosibegan_core::plain_std::vec::Vec;
 use crate::lists::entry::{Entry, read_entry, read_text};
 use crate::lists::fault::LineFault;
 use crate::lists::networks::Networks;
 use crate::lists::refusals::{Refusal, Refusals};
-use fosibegan::ipnetwork::{IpAddr, IpNetwork, Ipv4Network, Ipv6Network};
-use fosibegan::ipnetwork_sets::AddressSet;
-use fosibegan::plain_std::alloc::{AllocError, Global};
+use fosibegan_core::ipnetwork::{IpAddr, IpNetwork, Ipv4Network, Ipv6Network};
+use fosibegan_core::ipnetwork_sets::AddressSet;
+use fosibegan_core::plain_std::alloc::{AllocError, Global};
 
 /// Collects the networks that the lines of lists name, by family, and the lines that are refused.
 ///

@@ -2,10 +2,10 @@
 
 //! Networks of one family, in the order in which they were read.
 
-use fosibegan::plain_std::vec::Vec;
-use fosibegan::ipnetwork_blocks::{AddressSpace, range_to_blocks};
-use fosibegan::ipnetwork_sets::AddressSet;
-use fosibegan::plain_std::alloc::{AllocError, Global};
+use fosibegan_core::plain_std::vec::Vec;
+use fosibegan_core::ipnetwork_blocks::{AddressSpace, range_to_blocks};
+use fosibegan_core::ipnetwork_sets::AddressSet;
+use fosibegan_core::plain_std::alloc::{AllocError, Global};
 
 /// Networks of one family, in the order in which they were read.
 #[derive(Debug)]

@@ -3,8 +3,8 @@
 //! Where lists come from.
 
 use crate::lines::watched::Watched;
-use fosibegan::plain_std::io;
-use fosibegan::plain_std::io::Read;
+use fosibegan_core::plain_std::io;
+use fosibegan_core::plain_std::io::Read;
 
 /// Opens lists by their names, and closes them.
 ///

@@ -4,13 +4,13 @@
 
 use crate::lists::open_lists::OpenLists;
 use crate::lines::watched::Watched;
-use fosibegan::plain_std::io::ErrorKind;
+use fosibegan_core::plain_std::io::ErrorKind;
 
 /// Why a file cannot be opened.
 ///
 /// ```
 /// # use cidr_programs::in_examples::*;
-/// use fosibegan::plain_std::io::ErrorKind;
+/// use fosibegan_core::plain_std::io::ErrorKind;
 ///
 /// assert_eq!(OpenFault::of(ErrorKind::NotFound), OpenFault::Missing);
 /// assert_eq!(OpenFault::of(ErrorKind::TimedOut), OpenFault::Other);
@@ -34,7 +34,7 @@ impl OpenFault {
     ///
     /// ```
     /// # use cidr_programs::in_examples::*;
-    /// use fosibegan::plain_std::io::ErrorKind;
+    /// use fosibegan_core::plain_std::io::ErrorKind;
     ///
     /// assert_eq!(OpenFault::of(ErrorKind::PermissionDenied), OpenFault::Denied);
     /// assert_eq!(OpenFault::of(ErrorKind::Deadlock), OpenFault::Output);

@@ -4,7 +4,7 @@
 
 use crate::lists::entry::{Entry, EntryFault};
 use crate::lists::trimming::{Blank, trim};
-use fosibegan::ipnetwork::IpAddr;
+use fosibegan_core::ipnetwork::IpAddr;
 
 /// Returns the range between the ends that these texts name, or why there is none.
 pub(crate) fn read_range(before: &[u8], after: &[u8]) -> Result<Entry, EntryFault> {

@@ -6,7 +6,7 @@ use crate::lists::list_reader::ListReader;
 use crate::lines::fault::RunFault;
 use crate::lines::line_buffer::{LineBuffer, NextLine};
 use crate::lines::watched::Watched;
-use fosibegan::plain_std::io::Read;
+use fosibegan_core::plain_std::io::Read;
 
 /// The most bytes of a line, not counting its line end.
 ///

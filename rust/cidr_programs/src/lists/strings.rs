@@ -2,9 +2,9 @@
 
 //! Takes the strings of a JSON value.
 
-use fosibegan::plain_std::string::String;
+use fosibegan_core::plain_std::string::String;
 use crate::lists::list_reader::ListReader;
-use fosibegan::plain_std::json::{Map, Value};
+use fosibegan_core::plain_std::json::{Map, Value};
 
 /// Takes the strings of a value. Those that name no entry are refused if the reading is strict.
 pub(crate) fn take_value(lists: &mut ListReader, value: &Value, is_strict: bool) {

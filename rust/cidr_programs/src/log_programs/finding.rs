@@ -2,7 +2,7 @@
 
 //! The address of a line.
 
-use fosibegan::ipnetwork::IpAddr;
+use fosibegan_core::ipnetwork::IpAddr;
 use crate::line_addresses::{Area, part_of, picked};
 
 /// Returns the address in this area of a line, or the first of several, or `None` if there is none.

@@ -11,7 +11,7 @@ use crate::lists::OpenFault;
 use crate::program::log_fault::tell_fault_of;
 use crate::program::messages::{tell, tell_head, tell_number};
 use crate::program::usage::tell_shown;
-use fosibegan::plain_std::io::Write;
+use fosibegan_core::plain_std::io::Write;
 
 /// Reports, in the name of a program, that no line of the log of this name has an address in this
 /// area, if the log has lines and none has one.

@@ -2,14 +2,14 @@
 
 //! The network that is looked up for a network of a line.
 
-use fosibegan::ipnetwork::{IpAddr, IpNetwork};
+use fosibegan_core::ipnetwork::{IpAddr, IpNetwork};
 
 /// Returns the network that is looked up: if `mapped`, a network whose addresses are all IPv4-mapped
 /// counts as the network of their IPv4 addresses. Any other network is returned unchanged.
 ///
 /// ```
 /// # use cidr_programs::in_examples::*;
-/// use fosibegan::ipnetwork::IpNetwork;
+/// use fosibegan_core::ipnetwork::IpNetwork;
 /// use cidr_programs::log_programs::unmapping::asked_network;
 ///
 /// let mapped = IpNetwork::read_bytes(b"::ffff:10.0.0.0/104").unwrap();

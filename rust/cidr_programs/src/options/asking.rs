@@ -2,8 +2,8 @@
 
 //! Reads what the words of a command line ask a program for.
 
-use fosibegan::plain_std::vec::Vec;
-use fosibegan::plain_std::string::String;
+use fosibegan_core::plain_std::vec::Vec;
+use fosibegan_core::plain_std::string::String;
 use crate::options::faults::fault_of;
 use crate::options::items::Item;
 use crate::options::reading::items_of;
@@ -13,8 +13,8 @@ use crate::lines::output::Output;
 use crate::program::ending::print_text;
 use crate::program::memory::refuse_memory;
 use crate::program::start::text_asked;
-use fosibegan::plain_std::alloc::Global;
-use fosibegan::plain_std::io::Write;
+use fosibegan_core::plain_std::alloc::Global;
+use fosibegan_core::plain_std::io::Write;
 
 /// The texts that a program prints about itself.
 ///

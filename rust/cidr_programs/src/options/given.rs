@@ -2,10 +2,10 @@
 
 //! Which options are given, their values, and the FILEs.
 
-use fosibegan::plain_std::vec::Vec;
-use fosibegan::plain_std::string::String;
+use fosibegan_core::plain_std::vec::Vec;
+use fosibegan_core::plain_std::string::String;
 use crate::options::items::Item;
-use fosibegan::plain_std::alloc::{AllocError, Global};
+use fosibegan_core::plain_std::alloc::{AllocError, Global};
 
 /// Whether the option of this row is given.
 ///

@@ -2,11 +2,11 @@
 
 //! Reads the words of a command line, by the rows of a table of options.
 
-use fosibegan::plain_std::vec::Vec;
-use fosibegan::plain_std::string::String;
+use fosibegan_core::plain_std::vec::Vec;
+use fosibegan_core::plain_std::string::String;
 use crate::options::items::{Item, Mode, Text};
 use crate::options::table::{Row, joined, kind_at, lettered, named};
-use fosibegan::plain_std::alloc::{AllocError, Global};
+use fosibegan_core::plain_std::alloc::{AllocError, Global};
 
 /// Returns the items that the words say, in their order, by the rows of a table of options.
 ///

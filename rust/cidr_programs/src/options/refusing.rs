@@ -9,7 +9,7 @@ use crate::lines::output::Output;
 use crate::program::ending::FAILED;
 use crate::program::messages::{tell, tell_bytes};
 use crate::program::usage::tell_shown;
-use fosibegan::plain_std::io::Write;
+use fosibegan_core::plain_std::io::Write;
 
 /// Reports the fault of a command line and the usage, and returns the exit status 2.
 ///

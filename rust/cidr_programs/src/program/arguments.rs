@@ -2,13 +2,13 @@
 
 //! Reads the arguments of the program.
 
-use fosibegan::plain_std::vec::Vec;
-use fosibegan::plain_std::string::String;
-use fosibegan::plain_std::rt::Alloc;
-use fosibegan::plain_std::alloc::Global;
-use fosibegan::plain_std::env;
-use fosibegan::plain_std::io::ErrorKind;
-use fosibegan::plain_std::rt::Env;
+use fosibegan_core::plain_std::vec::Vec;
+use fosibegan_core::plain_std::string::String;
+use fosibegan_core::plain_std::rt::Alloc;
+use fosibegan_core::plain_std::alloc::Global;
+use fosibegan_core::plain_std::env;
+use fosibegan_core::plain_std::io::ErrorKind;
+use fosibegan_core::plain_std::rt::Env;
 
 /// Why the arguments cannot be read.
 ///
@@ -32,7 +32,7 @@ impl ArgumentsFault {
     /// ```
     /// # use cidr_programs::in_examples::*;
     /// use cidr_programs::program::arguments::ArgumentsFault;
-    /// use fosibegan::plain_std::io::ErrorKind;
+    /// use fosibegan_core::plain_std::io::ErrorKind;
     ///
     /// assert_eq!(ArgumentsFault::of(ErrorKind::InvalidData), ArgumentsFault::NotText);
     /// ```

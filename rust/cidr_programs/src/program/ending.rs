@@ -5,7 +5,7 @@
 use crate::program::messages::{tell, tell_of};
 use crate::lines::fault::RunFault;
 use crate::lines::output::Output;
-use fosibegan::plain_std::io::{ErrorKind, Write};
+use fosibegan_core::plain_std::io::{ErrorKind, Write};
 
 /// The exit status of a program that could not do what it was asked to do.
 ///
@@ -72,7 +72,7 @@ fn write_text<W: Write>(text: &str, output: &mut Output<'_, W>) -> Result<(), Ru
 /// ```
 /// # use cidr_programs::in_examples::*;
 /// use cidr_programs::program::ending::tell_unwritten;
-/// use fosibegan::plain_std::io::ErrorKind;
+/// use fosibegan_core::plain_std::io::ErrorKind;
 ///
 /// let (mut slice, mut room) = ([0; 64], [0; 46]);
 /// let mut errors = cidr_programs::lines::output::Output::new(room.as_mut_slice(), &mut slice);

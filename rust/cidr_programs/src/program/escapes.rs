@@ -4,7 +4,7 @@
 
 use crate::program::messages::{tell, tell_bytes};
 use crate::lines::output::Output;
-use fosibegan::plain_std::io::Write;
+use fosibegan_core::plain_std::io::Write;
 
 /// Writes bytes with their control characters escaped: `\x1b` stands for the byte 27.
 ///

@@ -4,7 +4,7 @@
 
 use crate::program::messages::{tell, tell_head, tell_number, tell_of};
 use crate::lines::output::Output;
-use fosibegan::plain_std::io::Write;
+use fosibegan_core::plain_std::io::Write;
 
 /// Why a log was not read to its end.
 #[derive(Clone, Copy, Debug, PartialEq, Eq)]

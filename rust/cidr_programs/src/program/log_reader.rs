@@ -8,7 +8,7 @@ use crate::lines::line_buffer::{LineBuffer, NextLine};
 use crate::lines::line_end::LineEnd;
 use crate::lines::output::Output;
 use crate::lines::watched::Watched;
-use fosibegan::plain_std::io::{Read, Write};
+use fosibegan_core::plain_std::io::{Read, Write};
 
 /// The most bytes of a line, not counting its line end.
 pub const LINE_MAX: usize = 1_048_576;
@@ -20,7 +20,7 @@ pub const BUFFER_LEN: usize = LINE_MAX + 2 + 262_144;
 ///
 /// ```
 /// # use cidr_programs::in_examples::*;
-/// # use fosibegan::plain_std::vec;
+/// # use fosibegan_core::plain_std::vec;
 /// # ended(|| {
 /// use cidr_programs::lines::output::Output;
 /// use cidr_programs::lines::watched::Watched;
@@ -52,7 +52,7 @@ pub enum NextLogLine {
 ///
 /// ```
 /// # use cidr_programs::in_examples::*;
-/// # use fosibegan::plain_std::vec;
+/// # use fosibegan_core::plain_std::vec;
 /// # ended(|| {
 /// use cidr_programs::lines::line_end::LineEnd;
 /// use cidr_programs::lines::output::Output;
@@ -96,7 +96,7 @@ impl<'b> LogReader<'b> {
     ///
     /// ```
     /// # use cidr_programs::in_examples::*;
-    /// # use fosibegan::plain_std::vec;
+    /// # use fosibegan_core::plain_std::vec;
     /// # ended(|| {
     /// use cidr_programs::program::log_reader::{BUFFER_LEN, LogReader};
     ///
@@ -113,7 +113,7 @@ impl<'b> LogReader<'b> {
     ///
     /// ```
     /// # use cidr_programs::in_examples::*;
-    /// # use fosibegan::plain_std::vec;
+    /// # use fosibegan_core::plain_std::vec;
     /// # ended(|| {
     /// use cidr_programs::program::log_reader::{BUFFER_LEN, LogReader};
     ///
@@ -135,7 +135,7 @@ impl<'b> LogReader<'b> {
     ///
     /// ```
     /// # use cidr_programs::in_examples::*;
-    /// # use fosibegan::plain_std::vec;
+    /// # use fosibegan_core::plain_std::vec;
     /// # ended(|| {
     /// use cidr_programs::lines::line_end::LineEnd;
     /// use cidr_programs::lines::output::Output;

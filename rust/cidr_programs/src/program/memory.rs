@@ -5,7 +5,7 @@
 use crate::program::ending::FAILED;
 use crate::program::messages::tell_of;
 use crate::lines::output::Output;
-use fosibegan::plain_std::io::Write;
+use fosibegan_core::plain_std::io::Write;
 
 /// Reports in the name of a program that memory ran out, and returns the exit status for that, 2.
 ///

@@ -3,10 +3,10 @@
 //! Messages on the error writer. If the write of one fails, nothing else changes.
 
 use crate::program::usage::tell_shown;
-use fosibegan::plain_std::arrayvec::ArrayString;
-use fosibegan::ipnetwork_addr::decimal::push_number;
+use fosibegan_core::plain_std::arrayvec::ArrayString;
+use fosibegan_core::ipnetwork_addr::decimal::push_number;
 use crate::lines::output::Output;
-use fosibegan::plain_std::io::Write;
+use fosibegan_core::plain_std::io::Write;
 
 /// Writes a text to the error writer. If that fails, now or earlier, the text is lost, and nothing
 /// else happens.

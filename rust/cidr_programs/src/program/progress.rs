@@ -2,16 +2,16 @@
 
 //! Shows on a terminal how much a long reading has read.
 
-use fosibegan::plain_std::rt::HostRuntime;
+use fosibegan_core::plain_std::rt::HostRuntime;
 use crate::program::messages::number_text;
-use fosibegan::plain_std::arrayvec::ArrayString;
+use fosibegan_core::plain_std::arrayvec::ArrayString;
 use std::cell::Cell;
-use fosibegan::plain_std::env::FillError;
-use fosibegan::plain_std::fs;
-use fosibegan::plain_std::io::{IsTerminal, Write};
-use fosibegan::plain_std::os::unix::fs::FileTypeExt;
-use fosibegan::plain_std::rt::Env;
-use fosibegan::plain_std::time::Instant;
+use fosibegan_core::plain_std::env::FillError;
+use fosibegan_core::plain_std::fs;
+use fosibegan_core::plain_std::io::{IsTerminal, Write};
+use fosibegan_core::plain_std::os::unix::fs::FileTypeExt;
+use fosibegan_core::plain_std::rt::Env;
+use fosibegan_core::plain_std::time::Instant;
 
 /// How long a reading takes before it is shown, in milliseconds.
 const PATIENCE: u128 = 2_000;

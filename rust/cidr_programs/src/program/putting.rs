@@ -4,7 +4,7 @@
 
 use crate::lines::fault::RunFault;
 use crate::lines::output::Output;
-use fosibegan::plain_std::io::Write;
+use fosibegan_core::plain_std::io::Write;
 
 /// Writes two texts, one after the other. The error is that a write failed.
 ///

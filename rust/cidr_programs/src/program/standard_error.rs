@@ -3,8 +3,8 @@
 //! Standard error, which also shows how much a long reading has read.
 
 use crate::program::progress::Progress;
-use fosibegan::plain_std::io;
-use fosibegan::plain_std::io::{Stderr, Write};
+use fosibegan_core::plain_std::io;
+use fosibegan_core::plain_std::io::{Stderr, Write};
 
 /// Standard error. Before each write, it removes what is shown there of a long reading.
 ///
@@ -13,7 +13,7 @@ use fosibegan::plain_std::io::{Stderr, Write};
 /// # let rt = HostRuntime::new();
 /// use cidr_programs::program::progress::Progress;
 /// use cidr_programs::program::standard_error::StandardError;
-/// use fosibegan::plain_std::io::Write;
+/// use fosibegan_core::plain_std::io::Write;
 ///
 /// let progress = Progress::new(&rt, true);
 /// assert!(StandardError::new(rt.stderr(), &progress).flush().is_ok());

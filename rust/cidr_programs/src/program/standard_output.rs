@@ -4,8 +4,8 @@
 
 use crate::program::progress::Progress;
 use std::cell::Cell;
-use fosibegan::plain_std::io;
-use fosibegan::plain_std::io::{ErrorKind, Stdout, Write};
+use fosibegan_core::plain_std::io;
+use fosibegan_core::plain_std::io::{ErrorKind, Stdout, Write};
 
 /// Standard output, which notes why a write failed, such as that nobody reads its pipe any more.
 /// Before each write, it removes what is shown of a long reading.
@@ -15,7 +15,7 @@ use fosibegan::plain_std::io::{ErrorKind, Stdout, Write};
 /// # let rt = HostRuntime::new();
 /// use cidr_programs::program::progress::Progress;
 /// use cidr_programs::program::standard_output::StandardOutput;
-/// use fosibegan::plain_std::io::Write;
+/// use fosibegan_core::plain_std::io::Write;
 ///
 /// let (progress, failure) = (Progress::new(&rt, true), std::cell::Cell::new(None));
 /// let mut output = StandardOutput::new(rt.stdout(), &progress, &failure);

@@ -2,9 +2,9 @@
 
 //! Starts a program: sets up the devices of its run, and handles its arguments.
 
-use fosibegan::plain_std::vec::Vec;
-use fosibegan::plain_std::string::String;
-use fosibegan::plain_std::rt::HostRuntime;
+use fosibegan_core::plain_std::vec::Vec;
+use fosibegan_core::plain_std::string::String;
+use fosibegan_core::plain_std::rt::HostRuntime;
 use crate::program::arguments::{ArgumentsFault, arguments};
 use crate::program::ending::tell_unwritten;
 use crate::program::progress::Progress;
@@ -15,7 +15,7 @@ use crate::program::usage::refuse_arguments;
 use crate::program::words::{is, is_only};
 use crate::lines::output::Output;
 use std::cell::Cell;
-use fosibegan::plain_std::io::ErrorKind;
+use fosibegan_core::plain_std::io::ErrorKind;
 use std::process::ExitCode;
 
 /// The most bytes that wait to be written to standard output.

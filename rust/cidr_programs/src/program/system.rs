@@ -2,14 +2,14 @@
 
 //! The files of the system.
 
-use fosibegan::plain_std::rt::HostRuntime;
+use fosibegan_core::plain_std::rt::HostRuntime;
 use crate::program::progress::Progress;
 use crate::lines::watched::Watched;
 use crate::lists::OpenLists;
-use fosibegan::plain_std::fs::{File, Metadata};
-use fosibegan::plain_std::io::{ErrorKind, IsTerminal, Read, Stdin};
-use fosibegan::plain_std::os::unix::fs::MetadataExt;
-use fosibegan::plain_std::{fs, io};
+use fosibegan_core::plain_std::fs::{File, Metadata};
+use fosibegan_core::plain_std::io::{ErrorKind, IsTerminal, Read, Stdin};
+use fosibegan_core::plain_std::os::unix::fs::MetadataExt;
+use fosibegan_core::plain_std::{fs, io};
 
 /// The files of the system, where `-` names standard input.
 ///
@@ -99,7 +99,7 @@ impl Read for Device {
 /// # use cidr_programs::in_examples::*;
 /// # let rt = HostRuntime::new();
 /// use cidr_programs::lists::OpenLists;
-/// use fosibegan::plain_std::io::Read;
+/// use fosibegan_core::plain_std::io::Read;
 ///
 /// let mut list = cidr_programs::program::system::System::new(&rt).open("no such file");
 /// assert!(list.is_err());

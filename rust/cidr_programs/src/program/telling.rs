@@ -2,12 +2,12 @@
 
 //! Reports about lists on the error writer. If the write of one fails, nothing else changes.
 
-use fosibegan::plain_std::string::String;
+use fosibegan_core::plain_std::string::String;
 use crate::program::messages::{tell, tell_head, tell_number, tell_of};
 use crate::program::words::text_at;
 use crate::lines::output::Output;
 use crate::lists::{ReadFault, Refusal, Refusals};
-use fosibegan::plain_std::io::Write;
+use fosibegan_core::plain_std::io::Write;
 
 /// Says where refused lines stand, in terms of the words of a command line.
 ///

@@ -7,7 +7,7 @@ use crate::program::ending::FAILED;
 use crate::program::escapes::tell_escaped;
 use crate::program::messages::{tell, tell_of};
 use crate::lines::output::Output;
-use fosibegan::plain_std::io::Write;
+use fosibegan_core::plain_std::io::Write;
 
 /// Writes a word as messages show it: an empty word as `''`, any other with control characters
 /// escaped.

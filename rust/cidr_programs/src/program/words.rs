@@ -2,7 +2,7 @@
 
 //! The words of a command line.
 
-use fosibegan::plain_std::string::String;
+use fosibegan_core::plain_std::string::String;
 
 /// Whether the word is this text.
 ///

@@ -2,7 +2,7 @@
 
 //! The block that two blocks are joined to, and what else is in it.
 
-use fosibegan::ipnetwork_blocks::AddressSpace;
+use fosibegan_core::ipnetwork_blocks::AddressSpace;
 
 /// The smallest block that contains both networks.
 ///

@@ -2,11 +2,11 @@
 
 //! Two lists whose neighbours are joined until there are few blocks.
 
-use fosibegan::plain_std::vec::Vec;
+use fosibegan_core::plain_std::vec::Vec;
 use crate::reducing::tree_list::TreeList;
-use fosibegan::ipnetwork_blocks::AddressSpace;
-use fosibegan::ipnetwork_sets::AddressSet;
-use fosibegan::plain_std::alloc::{AllocError, Global};
+use fosibegan_core::ipnetwork_blocks::AddressSpace;
+use fosibegan_core::ipnetwork_sets::AddressSet;
+use fosibegan_core::plain_std::alloc::{AllocError, Global};
 
 /// Lists of blocks of two families that have all the addresses of two sets, and for each list the
 /// number of its addresses that are not in the set.
@@ -32,7 +32,7 @@ pub struct Reduced<A, B> {
 ///
 /// ```
 /// # use cidr_programs::in_examples::*;
-/// # use fosibegan::plain_std::vec;
+/// # use fosibegan_core::plain_std::vec;
 /// # ended(|| {
 /// let first = vec![in Global; "10.0.0.0/24".parse::<Ipv4Network>()?, "10.0.2.0/24".parse()?]?;
 /// let second = Vec::<Ipv6Network>::new(Global);

@@ -3,7 +3,7 @@
 //! What a part of a list tells of itself to what is before and behind it.
 
 use crate::reducing::joining::others;
-use fosibegan::ipnetwork_blocks::AddressSpace;
+use fosibegan_core::ipnetwork_blocks::AddressSpace;
 
 /// The ends of a list of blocks, and the least number of others at two neighbours in it. That is
 /// `NO_PAIR` for one block.

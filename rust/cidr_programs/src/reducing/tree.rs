@@ -5,7 +5,7 @@
 
 use crate::reducing::joining::joined;
 use crate::reducing::span::{Span, alone, between, followed, least};
-use fosibegan::ipnetwork_blocks::AddressSpace;
+use fosibegan_core::ipnetwork_blocks::AddressSpace;
 
 /// A place for a block of a list, and the span of the blocks in the tree of which it is the root.
 #[derive(Clone, Copy)]

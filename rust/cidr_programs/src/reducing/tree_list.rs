@@ -2,11 +2,11 @@
 
 //! A list of blocks in which neighbours are joined.
 
-use fosibegan::plain_std::vec::Vec;
+use fosibegan_core::plain_std::vec::Vec;
 use crate::reducing::span::least;
 use crate::reducing::tree::{Node, build, join, span};
-use fosibegan::ipnetwork_blocks::AddressSpace;
-use fosibegan::plain_std::alloc::{AllocError, Global};
+use fosibegan_core::ipnetwork_blocks::AddressSpace;
+use fosibegan_core::plain_std::alloc::{AllocError, Global};
 
 /// A list of blocks, in a tree.
 pub(crate) struct TreeList<N: AddressSpace> {

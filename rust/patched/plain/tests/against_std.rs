@@ -11,7 +11,7 @@ use std::hash::{DefaultHasher, Hash, Hasher};
 use std::net::{IpAddr, Ipv4Addr, Ipv6Addr};
 use std::str::FromStr;
 
-#[path = "../../../fosibegan/tests/common/mod.rs"]
+#[path = "../../../fosibegan_core/tests/common/mod.rs"]
 mod common;
 
 use common::{host, mask, near, network_v4, network_v6, random_text, rows, seed, Cause, Random};

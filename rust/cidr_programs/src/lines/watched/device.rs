@@ -2,8 +2,8 @@
 
 //! A device that is not called again after a call has failed.
 
-use fosibegan::plain_std::io;
-use fosibegan::plain_std::io::{Read, Write};
+use fosibegan_core::plain_std::io;
+use fosibegan_core::plain_std::io::{Read, Write};
 
 /// A reader or a writer, and whether a call of it has failed.
 ///

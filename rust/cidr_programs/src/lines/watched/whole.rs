@@ -5,7 +5,7 @@
 use crate::lines::fault::RunFault;
 use crate::lines::watched::Watched;
 use crate::lines::writing::write_whole;
-use fosibegan::plain_std::io::Write;
+use fosibegan_core::plain_std::io::Write;
 
 impl<D: Write> Watched<D> {
     /// Writes all of these bytes, in as many calls as the device needs.
@@ -35,7 +35,7 @@ impl<D: Write> Watched<D> {
     ///
     /// ```
     /// # use cidr_programs::in_examples::*;
-    /// let mut writer = cidr_programs::lines::watched::Watched::new(fosibegan::plain_std::io::sink());
+    /// let mut writer = cidr_programs::lines::watched::Watched::new(fosibegan_core::plain_std::io::sink());
     /// assert_eq!(writer.finish(), Ok(()));
     /// ```
     pub fn finish(&mut self) -> Result<(), RunFault> {

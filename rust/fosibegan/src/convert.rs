@@ -1,0 +1,55 @@
+//! Addresses and networks as the core has them, and back.
+
+use crate::{Ipv4Network, Ipv6Network};
+use core::net::{Ipv4Addr, Ipv6Addr};
+use fosibegan_core::ipnetwork_addr as core_addr;
+use fosibegan_core::ipnetwork_family::{self as core_family, Network as CoreNetwork};
+
+pub(crate) type CoreV4 = core_family::Ipv4Network;
+pub(crate) type CoreV6 = core_family::Ipv6Network;
+
+/// The address as the core has it.
+#[inline]
+pub(crate) fn asked_v4(address: Ipv4Addr) -> core_addr::Ipv4Addr {
+    address.to_bits().into()
+}
+
+/// The address that the core answers.
+#[inline]
+pub(crate) fn told_v4(address: core_addr::Ipv4Addr) -> Ipv4Addr {
+    Ipv4Addr::from_bits(address.into())
+}
+
+/// The address as the core has it: by its segments, since by its number takes longer.
+#[inline]
+pub(crate) fn asked_v6(address: Ipv6Addr) -> core_addr::Ipv6Addr {
+    address.segments().into()
+}
+
+/// The address that the core answers.
+#[inline]
+pub(crate) fn told_v6(address: core_addr::Ipv6Addr) -> Ipv6Addr {
+    address.segments().into()
+}
+
+impl Ipv4Network {
+    /// The network as the core has it.
+    #[inline]
+    pub(crate) fn asked(self) -> CoreV4 {
+        match CoreNetwork::new_checked(asked_v4(self.ip()), self.prefix()) {
+            Some(network) => network,
+            None => unreachable!("a network has a prefix length of its family"),
+        }
+    }
+}
+
+impl Ipv6Network {
+    /// The network as the core has it.
+    #[inline]
+    pub(crate) fn asked(self) -> CoreV6 {
+        match CoreNetwork::new_checked(asked_v6(self.ip()), self.prefix()) {
+            Some(network) => network,
+            None => unreachable!("a network has a prefix length of its family"),
+        }
+    }
+}

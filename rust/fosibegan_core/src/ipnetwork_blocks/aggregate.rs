@@ -1,0 +1,134 @@
+// Written by scripts/plain out of crates/ipnetwork_blocks/src/aggregate.rt
+
+//! The least list of blocks with the same union as a list of networks.
+
+use crate::plain_std::vec::Vec;
+use crate::ipnetwork_blocks::held_network::HoldsNetwork;
+use crate::ipnetwork_blocks::supernets::block;
+use crate::ipnetwork_family::CidrNetwork;
+
+/// Replaces the networks, which may have host bits, with their aggregate at the front of the slice,
+/// and returns the number of its blocks. The aggregate is the list, in ascending order, of the
+/// blocks that lie in the networks' union but in no larger block of it. No list of networks with
+/// the same union is shorter (`laws::least`). The rest of the slice holds unspecified networks.
+///
+/// Sorts the slice and makes one pass over it.
+///
+/// ```
+/// # use fosibegan_core::in_examples::*;
+/// # ended(|| {
+/// let mut networks: [Ipv4Network; 2] = ["10.0.0.128/25".parse()?, "10.0.0.0/25".parse()?];
+/// assert_eq!(aggregate_in_place(&mut networks), 1);
+/// assert_eq!(networks[0].canonical().as_str(), "10.0.0.0/24");
+/// # Ok(())
+/// # });
+/// ```
+pub fn aggregate_in_place<N: CidrNetwork>(networks: &mut [N]) -> usize {
+    aggregate_held::<N, N>(networks)
+}
+
+/// Replaces the networks with their aggregate: the blocks that `aggregate_in_place` puts at the
+/// front. Frees no memory: the capacity does not change.
+///
+/// ```
+/// # use fosibegan_core::in_examples::*;
+/// # use fosibegan_core::plain_std::vec;
+/// # ended(|| {
+/// let mut networks = vec![in Global; "10.128.0.0/9".parse::<Ipv4Network>()?, "10.0.0.0/9".parse()?]?;
+/// aggregate_vec(&mut networks);
+/// assert_eq!(networks.as_slice(), ["10.0.0.0/8".parse()?].as_slice());
+/// # Ok(())
+/// # });
+/// ```
+pub fn aggregate_vec<N: CidrNetwork>(networks: &mut Vec<N>) {
+    let count = aggregate_in_place(networks.as_mut_slice());
+    networks.truncate(count);
+}
+
+/// Like `aggregate_in_place`, but for values that hold networks: replaces them with values that
+/// hold the aggregate, at the front of the slice, and returns the number of its blocks. Each value
+/// must hold a network of the family of `N`. The rest of the slice holds unspecified networks.
+///
+/// Sorts the slice and makes one pass over it.
+///
+/// ```
+/// # use fosibegan_core::in_examples::*;
+/// # ended(|| {
+/// let mut values: [Ipv6Network; 2] = ["2001:db8:8000::/33".parse()?, "2001:db8::/33".parse()?];
+/// assert_eq!(aggregate_held::<Ipv6Network, Ipv6Network>(&mut values), 1);
+/// assert_eq!(values[0].canonical().as_str(), "2001:db8::/32");
+/// # Ok(())
+/// # });
+/// ```
+///
+/// # Panics
+///
+/// Panics if a value holds no network of the family.
+pub fn aggregate_held<N: CidrNetwork, H: HoldsNetwork<N>>(values: &mut [H]) -> usize {
+    clear_host_bits::<N, H>(values);
+    values.sort_unstable();
+    join_sorted::<N, H>(values)
+}
+
+// Replaces each network with its block.
+fn clear_host_bits<N: CidrNetwork, H: HoldsNetwork<N>>(values: &mut [H]) {
+    for value in values.iter_mut() {
+        *value = H::holding(block(value.held_network()));
+    }
+}
+
+// Aggregates sorted blocks. The aggregate of the blocks that were read is kept at the front. The
+// next block either lies in the last of these, or is added after them and joined with those at
+// their end.
+fn join_sorted<N: CidrNetwork, H: HoldsNetwork<N>>(values: &mut [H]) -> usize {
+    let mut kept = 0;
+    for next in 0..values.len() {
+        let block = values[next].held_network();
+        if !lies_in_last(&values[..kept], block) {
+            let (left, joined) = join_back(&values[..kept], block);
+            values[left] = H::holding(joined);
+            kept = left + 1;
+        }
+    }
+    kept
+}
+
+// Returns whether the block lies in the last of the others.
+fn lies_in_last<N: CidrNetwork, H: HoldsNetwork<N>>(front: &[H], block: N) -> bool {
+    match front.last() {
+        Some(last) => block.is_subnet_of(last.held_network()),
+        None => false,
+    }
+}
+
+// Joins the block with the last block in front, then the result with the one before that, and so on
+// while the two are halves of one block. Returns how many blocks in front remain, and the block to
+// put after them.
+fn join_back<N: CidrNetwork, H: HoldsNetwork<N>>(front: &[H], block: N) -> (usize, N) {
+    let mut left = front.len();
+    let mut joined = block;
+    while left > 0 {
+        match join(front[left - 1].held_network(), joined) {
+            Some(whole) => {
+                joined = whole;
+                left -= 1;
+            }
+            None => return (left, joined),
+        }
+    }
+    (left, joined)
+}
+
+// Returns the block whose halves are these two, if there is one.
+fn join<N: CidrNetwork>(first: N, second: N) -> Option<N> {
+    let prefix = first.prefix();
+    if prefix == 0 || second.prefix() != prefix {
+        return None;
+    }
+    let whole = N::block(first.ip(), prefix - 1)?;
+    if whole.contains(second.ip()) {
+        Some(whole)
+    } else {
+        None
+    }
+}

@@ -1,0 +1,56 @@
+// Written by scripts/plain out of crates/ipnetwork_sets/src/check.rt
+
+//! Whether a list of networks is the list of a set.
+
+use crate::ipnetwork_sets::order::ends_before;
+use crate::ipnetwork_blocks::{AddressSpace, HoldsNetwork};
+
+/// Whether the networks that the values hold are the maximal blocks of their union, in ascending
+/// order. Goes over them once.
+///
+/// ```
+/// # use fosibegan_core::in_examples::*;
+/// # ended(|| {
+/// let halves: [Ipv4Network; 2] = ["192.0.2.0/25".parse()?, "192.0.2.128/25".parse()?];
+/// assert!(!is_address_set::<Ipv4Network, Ipv4Network>(&halves));
+/// # Ok(())
+/// # });
+/// ```
+///
+/// # Panics
+///
+/// Panics if a value holds no network of the family.
+pub fn is_address_set<N: AddressSpace, H: HoldsNetwork<N>>(list: &[H]) -> bool {
+    for next in 0..list.len() {
+        let block = list[next].held_network();
+        if !has_no_host_bits(block) {
+            return false;
+        }
+        if next > 0 && !follows(list[next - 1].held_network(), block) {
+            return false;
+        }
+    }
+    true
+}
+
+// Whether the network has no host bits.
+fn has_no_host_bits<N: AddressSpace>(network: N) -> bool {
+    network.ip() == network.network()
+}
+
+// Whether the second begins after the first ends, and the two are not the halves of one block.
+fn follows<N: AddressSpace>(first: N, second: N) -> bool {
+    ends_before(first, second) && !are_halves(first, second)
+}
+
+/// Whether two blocks that differ are the halves of one block.
+pub(crate) fn are_halves<N: AddressSpace>(first: N, second: N) -> bool {
+    let prefix = first.prefix();
+    if prefix == 0 || second.prefix() != prefix {
+        return false;
+    }
+    match N::block(first.ip(), prefix - 1) {
+        Some(whole) => whole.contains(second.ip()),
+        None => false,
+    }
+}
