@@ -1,12 +1,23 @@
 //! Addresses and networks as the core has them, and back.
 
 use crate::{Ipv4Network, Ipv6Network};
+use alloc::alloc::{Layout, handle_alloc_error};
 use core::net::{Ipv4Addr, Ipv6Addr};
 use fosibegan_core::ipnetwork_addr as core_addr;
 use fosibegan_core::ipnetwork_family::{self as core_family, Network as CoreNetwork};
 
 pub(crate) type CoreV4 = core_family::Ipv4Network;
 pub(crate) type CoreV6 = core_family::Ipv6Network;
+
+/// What a call of the core returns if it got the memory that it needed. If not, this ends the
+/// program as std does, which makes no difference between one size and another.
+#[inline]
+pub(crate) fn or_abort<T, E>(result: Result<T, E>) -> T {
+    match result {
+        Ok(value) => value,
+        Err(_) => handle_alloc_error(Layout::new::<u8>()),
+    }
+}
 
 /// The address as the core has it.
 #[inline]
