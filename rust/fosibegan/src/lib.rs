@@ -14,7 +14,11 @@ mod set;
 pub use error::{IpNetworkError, NetworkSizeError};
 pub use map::PrefixMap;
 pub use network::{
-    IpNetwork, IpNetworkIterator, Ipv4Network, Ipv4NetworkIterator, Ipv6Network, Ipv6NetworkIterator, Network,
-    NetworkSize, ip_mask_to_prefix, ipv4_mask_to_prefix, ipv6_mask_to_prefix,
+    IpNetwork, IpNetworkIterator, Ipv4Network, Ipv4NetworkIterator, Ipv6Network,
+    Ipv6NetworkIterator, Network, NetworkSize, ip_mask_to_prefix, ipv4_mask_to_prefix,
+    ipv6_mask_to_prefix,
 };
-pub use set::AddressSet;
+pub use set::{
+    AddressCount, AddressSet, AddressSetBuilder, Addresses, Complement, Difference, FreeIn,
+    FrozenSet, Intersection, IntoNetworks, Networks, Ranges, SymmetricDifference, Union,
+};
