@@ -76,6 +76,15 @@ HOLDERS = [
     (re.compile(r"^(impl HoldsNetwork<\w+> for \w+InC \{\n)", re.M), r"\1    const CHECKED: bool = true;\n\n"),
 ]
 
+# By crate, the types that get a `Clone` by derive, which the sources have no use for: each field of theirs has one.
+CLONES = {
+    "ipnetwork_sets": {
+        "AddressSet", "AddressSlice", "Blocks", "Ranges", "Intersection", "Difference", "Union",
+    },
+    "ipnetwork_table": {"PrefixTable", "Values"},
+    "ipnetwork_index": {"AddressIndex", "RouteIndex", "Partition", "Places", "LowHalves", "Ranges", "Answers"},
+}
+
 # The lines of `rust.txt` that are of no package.
 KEYS = {"stand_in", "optional", "instead", "left_out"}
 
@@ -374,6 +383,12 @@ class Source:
         lead, comment, rest = self.with_comment(end)
         return lead + EXAMPLE.sub("", comment) + rest[: end - len(lead) - len(comment)]
 
+    def clones(self):
+        """Has each type of `CLONES` derive `Clone`."""
+        for name in CLONES.get(self.crate, ()):
+            head = re.compile(rf"^(?:#\[derive\((.*)\)\]\n)?((?:pub(?:\([a-z]+\))? )?struct {name}\b)", re.M)
+            self.text = head.sub(lambda found: f"#[derive(Clone{', ' + found[1] if found[1] else ''})]\n{found[2]}", self.text)
+
     def examples(self):
         """The examples of comments, as rustdoc runs them: with names in scope, and without a handle."""
         out, body = [], None
@@ -458,6 +473,7 @@ class Source:
         self.uses()
         self.modules()
         self.laws()
+        self.clones()
         self.text = code_sub(r"\bprove!\(", "debug_assert!(", self.text)
         self.text = CUT.sub(uncut, self.text)
         self.text = BUILD.sub(r"\1 (plain Rust, made of proved sources)", self.text)

@@ -1,14 +1,31 @@
 //! Sets of addresses.
 
-use crate::convert::{CoreV4, CoreV6};
-use crate::{IpNetwork, Network};
-use core::marker::PhantomData;
-use fosibegan_core::AddressSet as CoreSet;
+mod address_set;
+mod addresses;
+mod builder;
+mod count;
+mod free;
+mod frozen;
+mod in_order;
+mod lazy;
+mod networks;
+mod operators;
+#[cfg(feature = "proptest")]
+mod proptest;
+mod questions;
+mod ranges;
+#[cfg(feature = "serde")]
+mod serde;
+mod symmetric;
+mod traits;
 
-/// A set of IP addresses.
-#[derive(Debug)]
-pub struct AddressSet<N: Network = IpNetwork> {
-    v4: CoreSet<CoreV4>,
-    v6: CoreSet<CoreV6>,
-    family: PhantomData<N>,
-}
+pub use address_set::AddressSet;
+pub use addresses::Addresses;
+pub use builder::AddressSetBuilder;
+pub use count::AddressCount;
+pub use free::FreeIn;
+pub use frozen::FrozenSet;
+pub use lazy::{Complement, Difference, Intersection, Union};
+pub use networks::{IntoNetworks, Networks};
+pub use ranges::Ranges;
+pub use symmetric::SymmetricDifference;

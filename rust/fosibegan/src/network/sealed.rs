@@ -1,6 +1,6 @@
 //! The trait of the three types of networks.
 
-use crate::{IpNetwork, IpNetworkError, Ipv4Network, Ipv6Network};
+use crate::{Addresses, IpNetwork, IpNetworkError, Ipv4Network, Ipv6Network};
 use core::fmt::{Debug, Display};
 use core::hash::Hash;
 use core::net::{IpAddr, Ipv4Addr, Ipv6Addr};
@@ -20,7 +20,9 @@ use core::str::FromStr;
 /// assert!(has_first(&set, "10.1.0.0/16".parse()?));
 /// # Ok::<(), fosibegan::IpNetworkError>(())
 /// ```
-pub trait Network: Sealed + From<Self::Addr> + FromStr<Err = IpNetworkError> {
+pub trait Network:
+    Sealed + Addresses<Self> + From<Self::Addr> + FromStr<Err = IpNetworkError>
+{
     /// The addresses of these networks, as std has them.
     type Addr: Copy + Ord + Hash + Debug + Display + FromStr + Send + Sync + Unpin + 'static;
 

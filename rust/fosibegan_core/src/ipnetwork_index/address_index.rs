@@ -23,6 +23,7 @@ use crate::plain_std::alloc::{AllocError, Global};
 /// # Ok(())
 /// # });
 /// ```
+#[derive(Clone)]
 pub struct AddressIndex<N: IndexedNetwork> {
     // The addresses, cut where the set begins or ends.
     partition: Partition<N>,

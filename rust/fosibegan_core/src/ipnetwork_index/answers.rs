@@ -13,6 +13,7 @@ pub(crate) const NO_BLOCK: u8 = 255;
 
 /// What a look-up finds in each range, without the address of the block, which is computed from the
 /// address that is looked up. Empty if the table is empty.
+#[derive(Clone)]
 pub(crate) struct Answers<V: Copy> {
     // The prefix length of the block that holds the addresses of each range.
     pub(crate) prefixes: Vec<u8>,

@@ -9,6 +9,7 @@ use crate::plain_std::simd::prelude::*;
 
 /// Ascending numbers of which only the last 16 bits are kept: the part that a number lies in gives
 /// the others. A number is searched for among those of its part.
+#[derive(Clone)]
 pub(crate) struct LowHalves {
     // The last 16 bits of each number, and eight more elements, so that eight can always be read.
     pub(crate) lows: Vec<u16>,

@@ -12,6 +12,7 @@ use crate::ipnetwork_index::starts::{span_of, write_starts};
 use crate::plain_std::alloc::{AllocError, Global};
 
 /// The addresses of a family, cut into ranges.
+#[derive(Clone)]
 pub(crate) struct Partition<N: IndexedNetwork> {
     // The last number of each range, and three more times that of the last range.
     lasts: Vec<N::Number>,

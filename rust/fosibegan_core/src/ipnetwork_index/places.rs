@@ -11,6 +11,7 @@ use crate::plain_std::alloc::{AllocError, Global};
 
 /// The ranges, as a partition or, if there are many that are spread out, by the low halves of their
 /// last numbers, which take half the memory and one read of eight numbers.
+#[derive(Clone)]
 pub(crate) struct Places<N: IndexedNetwork> {
     // The addresses cut into ranges, unless low halves represent these.
     pub(crate) partition: Option<Partition<N>>,

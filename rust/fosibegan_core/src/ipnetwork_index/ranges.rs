@@ -9,6 +9,7 @@ use crate::ipnetwork_index::places::Places;
 use crate::plain_std::alloc::{AllocError, Global};
 
 /// The ranges that a table's blocks cut the addresses into, with what a look-up finds in each.
+#[derive(Clone)]
 pub(crate) struct Ranges<N: IndexedNetwork, V: Copy> {
     // The addresses, cut where a block begins or ends.
     pub(crate) places: Places<N>,

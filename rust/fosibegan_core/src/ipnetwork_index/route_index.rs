@@ -24,6 +24,7 @@ use crate::plain_std::alloc::{AllocError, Global};
 /// # Ok(())
 /// # });
 /// ```
+#[derive(Clone)]
 pub struct RouteIndex<N: IndexedNetwork, V: Copy> {
     table: PrefixTable<N, V>,
     ranges: Ranges<N, V>,

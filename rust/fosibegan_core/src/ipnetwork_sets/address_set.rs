@@ -21,7 +21,7 @@ use crate::plain_std::alloc::AllocError;
 /// # Ok(())
 /// # });
 /// ```
-#[derive(Debug)]
+#[derive(Clone, Debug)]
 pub struct AddressSet<N: AddressSpace> {
     blocks: Vec<N>,
 }

@@ -23,7 +23,7 @@ use crate::ipnetwork_blocks::AddressSpace;
 /// # Ok(())
 /// # });
 /// ```
-#[derive(Debug)]
+#[derive(Clone, Debug)]
 pub struct AddressSlice<'a, N: AddressSpace> {
     blocks: &'a [N],
 }

@@ -51,7 +51,7 @@ pub trait SetBlocks<N: AddressSpace> {
 /// # Ok(())
 /// # });
 /// ```
-#[derive(Debug)]
+#[derive(Clone, Debug)]
 pub struct Blocks<'a, N: AddressSpace> {
     rest: AddressSlice<'a, N>,
 }

@@ -21,7 +21,7 @@ use core::marker::PhantomData;
 /// # Ok(())
 /// # });
 /// ```
-#[derive(Debug)]
+#[derive(Clone, Debug)]
 pub struct Intersection<'a, N: AddressSpace, H: HoldsNetwork<N> = N> {
     first: &'a [H],
     second: &'a [H],

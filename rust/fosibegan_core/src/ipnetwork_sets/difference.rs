@@ -20,7 +20,7 @@ use crate::ipnetwork_blocks::{AddressSpace, HoldsNetwork, block};
 /// # Ok(())
 /// # });
 /// ```
-#[derive(Debug)]
+#[derive(Clone, Debug)]
 pub struct Difference<'a, N: AddressSpace, H: HoldsNetwork<N> = N> {
     at_hand: Option<Part<N>>,
     rest: &'a [H],

@@ -26,7 +26,7 @@ use crate::ipnetwork_blocks::AddressSpace;
 /// # Ok(())
 /// # });
 /// ```
-#[derive(Debug)]
+#[derive(Clone, Debug)]
 pub struct Ranges<N: AddressSpace, B: SetBlocks<N>> {
     ahead: Option<N>,
     blocks: B,

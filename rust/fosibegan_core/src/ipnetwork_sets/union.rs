@@ -20,6 +20,7 @@ use crate::ipnetwork_blocks::{AddressSpace, HoldsNetwork, RangeBlocks, range_to_
 /// # Ok(())
 /// # });
 /// ```
+#[derive(Clone)]
 pub struct Union<'a, N: AddressSpace, H: HoldsNetwork<N> = N> {
     run: Option<RangeBlocks<N>>,
     first: &'a [H],

@@ -27,6 +27,7 @@ use core::fmt::{Debug, Formatter, Write};
 /// # Ok(())
 /// # });
 /// ```
+#[derive(Clone)]
 pub struct PrefixTable<N: CidrNetwork, V: Copy> {
     values: Values<N, V>,
     // `used[p]` is the number of stored blocks with prefix length p.

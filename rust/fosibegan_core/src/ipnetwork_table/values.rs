@@ -9,6 +9,7 @@ use crate::plain_std::collections::BTreeMap;
 
 /// Values by network. Searches for a key that change nothing are counted: `probe` and `last_up_to`
 /// add one to the count that they are given.
+#[derive(Clone)]
 pub(crate) struct Values<N: CidrNetwork, V: Copy> {
     tree: BTreeMap<N, V>,
 }

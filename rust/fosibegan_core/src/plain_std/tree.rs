@@ -14,7 +14,7 @@ mod tests;
 const LEVELS: usize = 32;
 
 /// A map in order. Each node but the highest has at least a quarter of the entries that it has room for.
-#[derive(Debug)]
+#[derive(Clone, Debug)]
 pub struct BTreeMap<K, V, const MOST: usize = 16> {
     leaves: Nodes<K, V, MOST>,
     above: Nodes<K, u32, MOST>,

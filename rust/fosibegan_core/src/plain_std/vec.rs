@@ -138,6 +138,18 @@ impl<T> Vec<T> {
     }
 }
 
+impl<T> From<rust_alloc::vec::Vec<T>> for Vec<T> {
+    fn from(items: rust_alloc::vec::Vec<T>) -> Self {
+        Vec(items)
+    }
+}
+
+impl<T> From<Vec<T>> for rust_alloc::vec::Vec<T> {
+    fn from(items: Vec<T>) -> Self {
+        items.0
+    }
+}
+
 impl<T> Deref for Vec<T> {
     type Target = [T];
 

@@ -8,7 +8,7 @@ pub(super) const NONE: u32 = u32::MAX;
 
 /// Keys in ascending order, each with an item. In a leaf that is a value; above the leaves it is the node that has the keys
 /// from this one on, up to the next. There the first key says nothing: what is less than the second goes to the first item.
-#[derive(Debug)]
+#[derive(Clone, Debug)]
 pub(super) struct Node<K, T, const MOST: usize> {
     pub(super) len: usize,
     /// Of a leaf the one behind it; of a node that is free the next of these.
@@ -98,7 +98,7 @@ impl<K: Copy, T: Copy, const MOST: usize> Node<K, T, MOST> {
 }
 
 /// Nodes by their number, and those that are free.
-#[derive(Debug)]
+#[derive(Clone, Debug)]
 pub(super) struct Nodes<K, T, const MOST: usize> {
     pub(super) all: Vec<Node<K, T, MOST>>,
     free: u32,

@@ -1,0 +1,177 @@
+//! Sets that do not change.
+
+use super::addresses::Addresses;
+use crate::convert::{CoreV4, CoreV6, asked_v4, asked_v6, or_abort};
+use crate::{AddressSet, IpNetwork, Network};
+use core::fmt;
+use core::marker::PhantomData;
+use core::net::IpAddr;
+use fosibegan_core::AddressIndex;
+use fosibegan_core::plain_std::alloc::Global;
+
+/// A set of IP addresses that does not change, and answers fastest.
+///
+/// It is made by [`AddressSet::freeze`], from the set or from an iterator. To change it, keep the
+/// set, change that and freeze it again, which takes about as long as to copy the set a few times.
+///
+/// ```
+/// use fosibegan::{FrozenSet, IpNetwork};
+/// use std::net::IpAddr;
+///
+/// let texts = ["10.0.0.0/8", "2001:db8::/32"];
+/// let allowed =
+///     texts.iter().map(|text| text.parse::<IpNetwork>()).collect::<Result<FrozenSet, _>>()?;
+///
+/// let client: IpAddr = "::ffff:10.1.2.3".parse()?;
+/// assert!(allowed.contains(client.to_canonical()));
+/// # Ok::<(), Box<dyn std::error::Error>>(())
+/// ```
+///
+/// As with an [`AddressSet`], an IPv4-mapped address such as `::ffff:10.1.2.3` is an IPv6 address:
+/// ask `contains(addr.to_canonical())`, or [`contains_mapped`](FrozenSet::contains_mapped). **An
+/// empty set contains no address**, so that an empty deny list lets everybody in.
+///
+/// # Cost
+///
+/// [`contains`](Self::contains) takes a few reads if the networks are spread out, 8 ns for 10,000 of
+/// them, and no longer than a binary search if they are not. For each place where the set begins or
+/// ends it has, of IPv4, 8 to 20 bytes, and of IPv6 20 to 40.
+#[derive(Clone)]
+pub struct FrozenSet<N: Network = IpNetwork> {
+    v4: AddressIndex<CoreV4>,
+    v6: AddressIndex<CoreV6>,
+    family: PhantomData<N>,
+}
+
+impl FrozenSet {
+    /// Whether the set contains an address in either of its forms.
+    ///
+    /// Of an IPv4-mapped address such as `::ffff:10.1.2.3`, this is whether the set contains the
+    /// IPv4 address (`10.1.2.3`) or the IPv6 address as it stands. Of every other address it is
+    /// [`contains`](Self::contains).
+    ///
+    /// ```
+    /// use fosibegan::{FrozenSet, IpNetwork};
+    ///
+    /// let denied = FrozenSet::from_iter(["10.0.0.0/8".parse::<IpNetwork>()?]);
+    /// assert!(denied.contains_mapped("::ffff:10.1.2.3".parse()?));
+    /// assert!(!denied.contains_mapped("::ffff:11.1.2.3".parse()?));
+    /// # Ok::<(), Box<dyn std::error::Error>>(())
+    /// ```
+    #[inline]
+    #[must_use]
+    pub fn contains_mapped(&self, addr: IpAddr) -> bool {
+        if let IpAddr::V6(v6) = addr {
+            if let Some(v4) = v6.to_ipv4_mapped() {
+                return self.contains(IpAddr::V4(v4)) || self.contains(addr);
+            }
+        }
+        self.contains(addr)
+    }
+}
+
+impl<N: Network> FrozenSet<N> {
+    /// Whether the set contains an address.
+    ///
+    /// ```
+    /// use fosibegan::{FrozenSet, Ipv4Network};
+    /// use std::net::Ipv4Addr;
+    ///
+    /// let set: FrozenSet<Ipv4Network> =
+    ///     ["192.0.2.0/25".parse::<Ipv4Network>()?].into_iter().collect();
+    /// assert!(set.contains(Ipv4Addr::new(192, 0, 2, 127)));
+    /// assert!(!set.contains(Ipv4Addr::new(192, 0, 2, 128)));
+    /// # Ok::<(), Box<dyn std::error::Error>>(())
+    /// ```
+    #[inline]
+    #[must_use]
+    pub fn contains(&self, addr: N::Addr) -> bool {
+        match N::either_address(addr) {
+            IpAddr::V4(addr) => self.v4.contains(asked_v4(addr)),
+            IpAddr::V6(addr) => self.v6.contains(asked_v6(addr)),
+        }
+    }
+
+    /// Writes whether the set contains each of the addresses to the same place in `answers`.
+    ///
+    /// # Panics
+    ///
+    /// Panics if there are not as many answers as addresses.
+    ///
+    /// ```
+    /// use fosibegan::{FrozenSet, Ipv4Network};
+    /// use std::net::Ipv4Addr;
+    ///
+    /// let set: FrozenSet<Ipv4Network> =
+    ///     ["192.0.2.0/25".parse::<Ipv4Network>()?].into_iter().collect();
+    /// let addrs = [Ipv4Addr::new(192, 0, 2, 127), Ipv4Addr::new(192, 0, 2, 128)];
+    /// let mut answers = [false; 2];
+    /// set.contains_each(&addrs, &mut answers);
+    /// assert_eq!(answers, [true, false]);
+    /// # Ok::<(), Box<dyn std::error::Error>>(())
+    /// ```
+    pub fn contains_each(&self, addrs: &[N::Addr], answers: &mut [bool]) {
+        assert_eq!(
+            addrs.len(),
+            answers.len(),
+            "there are not as many answers as addresses"
+        );
+        for (addr, answer) in addrs.iter().zip(answers) {
+            *answer = self.contains(*addr);
+        }
+    }
+
+    /// Whether the set contains no address.
+    ///
+    /// ```
+    /// use fosibegan::{AddressSet, FrozenSet, IpNetwork};
+    ///
+    /// let nobody = AddressSet::new().freeze();
+    /// assert!(nobody.is_empty());
+    /// assert!(!FrozenSet::from_iter(["0.0.0.0/0".parse::<IpNetwork>()?]).is_empty());
+    /// # Ok::<(), Box<dyn std::error::Error>>(())
+    /// ```
+    #[must_use]
+    pub fn is_empty(&self) -> bool {
+        // An index of one range alone has none of the family's addresses, or all of them.
+        self.v4.range_count() == 1
+            && self.v6.range_count() == 1
+            && !self.v4.contains(asked_v4(0.into()))
+            && !self.v6.contains(asked_v6(0.into()))
+    }
+}
+
+impl<N: Network> From<&AddressSet<N>> for FrozenSet<N> {
+    fn from(set: &AddressSet<N>) -> Self {
+        FrozenSet {
+            v4: or_abort(AddressIndex::from_set(Global, &set.v4)),
+            v6: or_abort(AddressIndex::from_set(Global, &set.v6)),
+            family: PhantomData,
+        }
+    }
+}
+
+impl<N: Network> From<AddressSet<N>> for FrozenSet<N> {
+    fn from(set: AddressSet<N>) -> Self {
+        Self::from(&set)
+    }
+}
+
+impl<N: Network, T: Addresses<N>> FromIterator<T> for FrozenSet<N> {
+    fn from_iter<I: IntoIterator<Item = T>>(items: I) -> Self {
+        AddressSet::from_iter(items).into()
+    }
+}
+
+impl<N: Network> Default for FrozenSet<N> {
+    /// An empty set.
+    fn default() -> Self {
+        AddressSet::default().into()
+    }
+}
+
+impl<N: Network> fmt::Debug for FrozenSet<N> {
+    fn fmt(&self, f: &mut fmt::Formatter<'_>) -> fmt::Result {
+        f.debug_struct("FrozenSet").finish_non_exhaustive()
+    }
+}

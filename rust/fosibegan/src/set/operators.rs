@@ -1,0 +1,236 @@
+//! The operators on sets.
+
+use crate::convert::or_abort;
+use crate::{AddressSet, Network};
+use core::ops::{
+    BitAnd, BitAndAssign, BitOr, BitOrAssign, BitXor, BitXorAssign, Not, Sub, SubAssign,
+};
+use fosibegan_core::plain_std::alloc::Global;
+use fosibegan_core::plain_std::vec::Vec as CoreVec;
+use fosibegan_core::{AddressSet as CoreSet, AddressSpace, SetBlocks, collected};
+
+/// So many networks are rather added to a set or removed from it one by one.
+const FEW: usize = 8;
+
+fn union<C: AddressSpace>(set: &CoreSet<C>, other: &CoreSet<C>) -> CoreSet<C> {
+    let most = set.blocks().len() + other.blocks().len();
+    let memory = or_abort(CoreVec::with_capacity(Global, most));
+    or_abort(set.union(other, memory))
+}
+
+fn set_of<C: AddressSpace>(blocks: impl SetBlocks<C>) -> CoreSet<C> {
+    or_abort(collected(blocks, CoreVec::new(Global)))
+}
+
+fn add<C: AddressSpace>(set: &mut CoreSet<C>, other: &CoreSet<C>) {
+    if other.blocks().len() > FEW {
+        *set = union(set, other);
+        return;
+    }
+    for block in other.blocks() {
+        or_abort(set.insert(*block));
+    }
+}
+
+fn subtract<C: AddressSpace>(set: &mut CoreSet<C>, other: &CoreSet<C>) {
+    if other.blocks().len() > FEW {
+        *set = set_of(set.difference(other));
+        return;
+    }
+    for block in other.blocks() {
+        or_abort(set.remove(*block));
+    }
+}
+
+impl<N: Network> BitOr for &AddressSet<N> {
+    type Output = AddressSet<N>;
+
+    /// The set of the addresses that are in one of the sets or in both.
+    ///
+    /// ```
+    /// use fosibegan::{AddressSet, IpNetwork};
+    ///
+    /// let office = AddressSet::from(["192.0.2.0/25".parse::<IpNetwork>()?]);
+    /// let guests = AddressSet::from(["192.0.2.128/25".parse::<IpNetwork>()?]);
+    /// assert_eq!(&office | &guests, AddressSet::from(["192.0.2.0/24".parse::<IpNetwork>()?]));
+    /// # Ok::<(), Box<dyn std::error::Error>>(())
+    /// ```
+    fn bitor(self, other: Self) -> AddressSet<N> {
+        AddressSet::of_parts(union(&self.v4, &other.v4), union(&self.v6, &other.v6))
+    }
+}
+
+impl<N: Network> BitAnd for &AddressSet<N> {
+    type Output = AddressSet<N>;
+
+    /// The set of the addresses that are in both sets.
+    ///
+    /// ```
+    /// use fosibegan::{AddressSet, IpNetwork};
+    ///
+    /// let office = AddressSet::from(["192.0.2.0/24".parse::<IpNetwork>()?]);
+    /// let seen = AddressSet::from(["192.0.2.7".parse::<IpNetwork>()?, "10.0.0.1".parse()?]);
+    /// assert_eq!(&office & &seen, AddressSet::from(["192.0.2.7".parse::<IpNetwork>()?]));
+    /// # Ok::<(), Box<dyn std::error::Error>>(())
+    /// ```
+    fn bitand(self, other: Self) -> AddressSet<N> {
+        let v4 = set_of(self.v4.intersection(&other.v4));
+        AddressSet::of_parts(v4, set_of(self.v6.intersection(&other.v6)))
+    }
+}
+
+impl<N: Network> Sub for &AddressSet<N> {
+    type Output = AddressSet<N>;
+
+    /// The set of the addresses that are in the first set and not in the second.
+    ///
+    /// ```
+    /// use fosibegan::{AddressSet, IpNetwork};
+    ///
+    /// let allowed = AddressSet::from(["192.0.2.0/24".parse::<IpNetwork>()?]);
+    /// let denied = AddressSet::from(["192.0.2.128/25".parse::<IpNetwork>()?]);
+    /// assert_eq!(&allowed - &denied, AddressSet::from(["192.0.2.0/25".parse::<IpNetwork>()?]));
+    /// # Ok::<(), Box<dyn std::error::Error>>(())
+    /// ```
+    fn sub(self, other: Self) -> AddressSet<N> {
+        let v4 = set_of(self.v4.difference(&other.v4));
+        AddressSet::of_parts(v4, set_of(self.v6.difference(&other.v6)))
+    }
+}
+
+impl<N: Network> BitXor for &AddressSet<N> {
+    type Output = AddressSet<N>;
+
+    /// The set of the addresses that are in one of the sets and not in both.
+    ///
+    /// ```
+    /// use fosibegan::{AddressSet, IpNetwork};
+    ///
+    /// let before = AddressSet::from(["192.0.2.0/24".parse::<IpNetwork>()?]);
+    /// let after = AddressSet::from(["192.0.2.0/25".parse::<IpNetwork>()?]);
+    /// assert_eq!(&before ^ &after, AddressSet::from(["192.0.2.128/25".parse::<IpNetwork>()?]));
+    /// # Ok::<(), Box<dyn std::error::Error>>(())
+    /// ```
+    fn bitxor(self, other: Self) -> AddressSet<N> {
+        self.symmetric_difference(other).collect()
+    }
+}
+
+impl<N: Network> Not for &AddressSet<N> {
+    type Output = AddressSet<N>;
+
+    /// The set of all addresses that are not in this one: of the family of the set, or of both.
+    /// **Of an empty set that is every address.**
+    ///
+    /// ```
+    /// use fosibegan::{AddressSet, Ipv4Network};
+    ///
+    /// let set: AddressSet<Ipv4Network> = ["0.0.0.0/1".parse::<Ipv4Network>()?].into();
+    /// assert!((!&set).networks().eq(["128.0.0.0/1".parse()?]));
+    /// # Ok::<(), Box<dyn std::error::Error>>(())
+    /// ```
+    fn not(self) -> AddressSet<N> {
+        self.complement().collect()
+    }
+}
+
+impl<N: Network> Not for AddressSet<N> {
+    type Output = AddressSet<N>;
+
+    /// The set of all addresses that are not in this one, as of a reference.
+    fn not(self) -> AddressSet<N> {
+        !&self
+    }
+}
+
+impl<N: Network> BitOrAssign<&AddressSet<N>> for AddressSet<N> {
+    /// Adds the addresses of the other set.
+    ///
+    /// ```
+    /// use fosibegan::{AddressSet, IpNetwork};
+    ///
+    /// let mut set = AddressSet::from(["192.0.2.0/25".parse::<IpNetwork>()?]);
+    /// set |= &AddressSet::from(["192.0.2.128/25".parse::<IpNetwork>()?]);
+    /// assert_eq!(set, AddressSet::from(["192.0.2.0/24".parse::<IpNetwork>()?]));
+    /// # Ok::<(), Box<dyn std::error::Error>>(())
+    /// ```
+    fn bitor_assign(&mut self, other: &Self) {
+        add(&mut self.v4, &other.v4);
+        add(&mut self.v6, &other.v6);
+    }
+}
+
+impl<N: Network> BitAndAssign<&AddressSet<N>> for AddressSet<N> {
+    /// Keeps only the addresses that are in the other set too.
+    fn bitand_assign(&mut self, other: &Self) {
+        *self = &*self & other;
+    }
+}
+
+impl<N: Network> SubAssign<&AddressSet<N>> for AddressSet<N> {
+    /// Removes the addresses of the other set.
+    ///
+    /// ```
+    /// use fosibegan::{AddressSet, IpNetwork};
+    ///
+    /// let mut set = AddressSet::from(["192.0.2.0/24".parse::<IpNetwork>()?]);
+    /// set -= &AddressSet::from(["192.0.2.128/25".parse::<IpNetwork>()?]);
+    /// assert_eq!(set, AddressSet::from(["192.0.2.0/25".parse::<IpNetwork>()?]));
+    /// # Ok::<(), Box<dyn std::error::Error>>(())
+    /// ```
+    fn sub_assign(&mut self, other: &Self) {
+        subtract(&mut self.v4, &other.v4);
+        subtract(&mut self.v6, &other.v6);
+    }
+}
+
+impl<N: Network> BitXorAssign<&AddressSet<N>> for AddressSet<N> {
+    /// Removes the addresses that are in both sets, and adds those that are only in the other.
+    fn bitxor_assign(&mut self, other: &Self) {
+        *self = &*self ^ other;
+    }
+}
+
+/// The operators of sets that are owned, by those of references.
+macro_rules! owned {
+    ($($operator:ident $call:ident, $assign:ident $call_assign:ident;)*) => {$(
+        impl<N: Network> $operator for AddressSet<N> {
+            type Output = AddressSet<N>;
+
+            fn $call(mut self, other: Self) -> AddressSet<N> {
+                self.$call_assign(&other);
+                self
+            }
+        }
+
+        impl<N: Network> $operator<&AddressSet<N>> for AddressSet<N> {
+            type Output = AddressSet<N>;
+
+            fn $call(mut self, other: &Self) -> AddressSet<N> {
+                self.$call_assign(other);
+                self
+            }
+        }
+
+        impl<N: Network> $operator<AddressSet<N>> for &AddressSet<N> {
+            type Output = AddressSet<N>;
+
+            fn $call(self, other: AddressSet<N>) -> AddressSet<N> {
+                self.$call(&other)
+            }
+        }
+
+        impl<N: Network> $assign for AddressSet<N> {
+            fn $call_assign(&mut self, other: Self) {
+                self.$call_assign(&other);
+            }
+        }
+    )*};
+}
+
+owned! {
+    BitOr bitor, BitOrAssign bitor_assign;
+    BitAnd bitand, BitAndAssign bitand_assign;
+    Sub sub, SubAssign sub_assign;
+    BitXor bitxor, BitXorAssign bitxor_assign;
+}

@@ -1,0 +1,214 @@
+//! What a set is asked.
+
+use crate::convert::{asked_v4, asked_v6};
+use crate::{AddressCount, AddressSet, FrozenSet, IpNetwork, Network};
+use core::net::IpAddr;
+
+impl AddressSet {
+    /// Whether the set contains an address in either of its forms.
+    ///
+    /// Of an IPv4-mapped address such as `::ffff:10.1.2.3`, this is whether the set contains the
+    /// IPv4 address (`10.1.2.3`) or the IPv6 address as it stands. Of every other address it is
+    /// [`contains`](Self::contains).
+    ///
+    /// ```
+    /// use fosibegan::{AddressSet, IpNetwork};
+    ///
+    /// let denied: AddressSet =
+    ///     ["10.0.0.0/8".parse::<IpNetwork>()?, "::ffff:192.0.2.0/120".parse()?].into();
+    /// assert!(denied.contains_mapped("::ffff:10.1.2.3".parse()?));
+    /// assert!(denied.contains_mapped("::ffff:192.0.2.1".parse()?));
+    /// assert!(!denied.contains_mapped("192.0.2.1".parse()?));
+    /// # Ok::<(), Box<dyn std::error::Error>>(())
+    /// ```
+    #[inline]
+    #[must_use]
+    pub fn contains_mapped(&self, addr: IpAddr) -> bool {
+        if let IpAddr::V6(v6) = addr {
+            if let Some(v4) = v6.to_ipv4_mapped() {
+                return self.contains(IpAddr::V4(v4)) || self.contains(addr);
+            }
+        }
+        self.contains(addr)
+    }
+}
+
+impl<N: Network> AddressSet<N> {
+    /// Whether the set contains no address.
+    ///
+    /// ```
+    /// use fosibegan::{AddressSet, IpNetwork};
+    ///
+    /// let file = "# nobody left\n";
+    /// let denied = file
+    ///     .lines()
+    ///     .filter(|line| !line.starts_with('#'))
+    ///     .map(str::parse::<IpNetwork>)
+    ///     .collect::<Result<AddressSet, _>>()?;
+    /// // To go on with this list would let everybody in: keep the last one that was not empty.
+    /// assert!(denied.is_empty());
+    /// # Ok::<(), Box<dyn std::error::Error>>(())
+    /// ```
+    #[must_use]
+    pub fn is_empty(&self) -> bool {
+        self.v4.is_empty() && self.v6.is_empty()
+    }
+
+    /// Whether the set contains an address. Takes a binary search.
+    ///
+    /// An IPv4-mapped address such as `::ffff:10.1.2.3` is an IPv6 address here: see
+    /// [above](AddressSet#ipv4-mapped-addresses).
+    ///
+    /// ```
+    /// use fosibegan::{AddressSet, IpNetwork};
+    /// use std::net::IpAddr;
+    ///
+    /// let allowed = AddressSet::from(["10.0.0.0/8".parse::<IpNetwork>()?]);
+    /// let client: IpAddr = "::ffff:10.1.2.3".parse()?;
+    /// assert!(allowed.contains(client.to_canonical()));
+    /// assert!(!allowed.contains(client));
+    /// # Ok::<(), Box<dyn std::error::Error>>(())
+    /// ```
+    #[inline]
+    #[must_use]
+    pub fn contains(&self, addr: N::Addr) -> bool {
+        match N::either_address(addr) {
+            IpAddr::V4(addr) => self.v4.contains(asked_v4(addr)),
+            IpAddr::V6(addr) => self.v6.contains(asked_v6(addr)),
+        }
+    }
+
+    /// Whether the set contains every address of a network. Takes a binary search.
+    ///
+    /// ```
+    /// use fosibegan::{AddressSet, IpNetwork};
+    ///
+    /// let set: AddressSet =
+    ///     ["192.0.2.0/25".parse::<IpNetwork>()?, "192.0.2.128/25".parse()?].into();
+    /// assert!(set.covers("192.0.2.0/24".parse()?));
+    /// assert!(!set.covers("192.0.2.0/23".parse()?));
+    /// # Ok::<(), Box<dyn std::error::Error>>(())
+    /// ```
+    #[inline]
+    #[must_use]
+    pub fn covers(&self, network: N) -> bool {
+        match network.either() {
+            IpNetwork::V4(network) => self.v4.covers(network.asked()),
+            IpNetwork::V6(network) => self.v6.covers(network.asked()),
+        }
+    }
+
+    /// Whether the set contains some address of a network. Takes a binary search.
+    ///
+    /// ```
+    /// use fosibegan::{AddressSet, IpNetwork};
+    ///
+    /// let set = AddressSet::from(["192.0.2.0/25".parse::<IpNetwork>()?]);
+    /// assert!(set.overlaps("192.0.2.0/24".parse()?));
+    /// assert!(!set.overlaps("192.0.2.128/25".parse()?));
+    /// # Ok::<(), Box<dyn std::error::Error>>(())
+    /// ```
+    #[inline]
+    #[must_use]
+    pub fn overlaps(&self, network: N) -> bool {
+        match network.either() {
+            IpNetwork::V4(network) => self.v4.overlaps(network.asked()),
+            IpNetwork::V6(network) => self.v6.overlaps(network.asked()),
+        }
+    }
+
+    /// The number of networks that the set is kept as: the fewest that have its addresses. For the
+    /// number of addresses see [`address_count`](Self::address_count).
+    ///
+    /// ```
+    /// use fosibegan::{AddressSet, IpNetwork};
+    ///
+    /// let set: AddressSet =
+    ///     ["192.0.2.0/25".parse::<IpNetwork>()?, "192.0.2.128/25".parse()?].into();
+    /// assert_eq!(set.len(), 1);
+    /// # Ok::<(), Box<dyn std::error::Error>>(())
+    /// ```
+    #[must_use]
+    pub fn len(&self) -> usize {
+        self.v4.blocks().len() + self.v6.blocks().len()
+    }
+
+    /// The number of addresses. It is exact, even of the set of all addresses of both families.
+    /// Goes over the networks once.
+    ///
+    /// ```
+    /// use fosibegan::{AddressSet, IpNetwork};
+    ///
+    /// let set: AddressSet =
+    ///     ["192.0.2.0/24".parse::<IpNetwork>()?, "192.0.2.128/25".parse()?].into();
+    /// assert_eq!(set.address_count(), 256);
+    /// assert_eq!((!AddressSet::new()).address_count().to_string(), "340282366920938463463374607436063178752");
+    /// # Ok::<(), Box<dyn std::error::Error>>(())
+    /// ```
+    #[must_use]
+    pub fn address_count(&self) -> AddressCount {
+        AddressCount::of_parts(self.v4.address_count(), self.v6.address_count())
+    }
+
+    /// Whether each address of this set is in `other`. Goes over both lists once at most.
+    ///
+    /// ```
+    /// use fosibegan::{AddressSet, IpNetwork};
+    ///
+    /// let office = AddressSet::from(["10.1.0.0/16".parse::<IpNetwork>()?]);
+    /// let private = AddressSet::from(["10.0.0.0/8".parse::<IpNetwork>()?]);
+    /// assert!(office.is_subset(&private));
+    /// assert!(AddressSet::new().is_subset(&office));
+    /// # Ok::<(), Box<dyn std::error::Error>>(())
+    /// ```
+    #[must_use]
+    pub fn is_subset(&self, other: &Self) -> bool {
+        self.v4.is_subset_of(&other.v4) && self.v6.is_subset_of(&other.v6)
+    }
+
+    /// Whether each address of `other` is in this set. Goes over both lists once at most.
+    ///
+    /// ```
+    /// use fosibegan::{AddressSet, IpNetwork};
+    ///
+    /// let office = AddressSet::from(["10.1.0.0/16".parse::<IpNetwork>()?]);
+    /// let private = AddressSet::from(["10.0.0.0/8".parse::<IpNetwork>()?]);
+    /// assert!(private.is_superset(&office));
+    /// # Ok::<(), Box<dyn std::error::Error>>(())
+    /// ```
+    #[must_use]
+    pub fn is_superset(&self, other: &Self) -> bool {
+        other.is_subset(self)
+    }
+
+    /// Whether no address is in both sets. Goes over both lists once at most.
+    ///
+    /// ```
+    /// use fosibegan::{AddressSet, IpNetwork};
+    ///
+    /// let office = AddressSet::from(["10.1.0.0/16".parse::<IpNetwork>()?]);
+    /// let guests = AddressSet::from(["10.2.0.0/16".parse::<IpNetwork>()?]);
+    /// assert!(office.is_disjoint(&guests));
+    /// # Ok::<(), Box<dyn std::error::Error>>(())
+    /// ```
+    #[must_use]
+    pub fn is_disjoint(&self, other: &Self) -> bool {
+        self.v4.is_disjoint_from(&other.v4) && self.v6.is_disjoint_from(&other.v6)
+    }
+
+    /// The set in the form that is searched fastest, and that does not change: see [`FrozenSet`].
+    /// Goes over the networks once.
+    ///
+    /// ```
+    /// use fosibegan::{AddressSet, FrozenSet, IpNetwork};
+    ///
+    /// let set = AddressSet::from(["10.0.0.0/8".parse::<IpNetwork>()?]);
+    /// let frozen: FrozenSet = set.freeze();
+    /// assert!(frozen.contains("10.1.2.3".parse()?));
+    /// # Ok::<(), Box<dyn std::error::Error>>(())
+    /// ```
+    #[must_use]
+    pub fn freeze(&self) -> FrozenSet<N> {
+        FrozenSet::from(self)
+    }
+}

@@ -1,0 +1,149 @@
+//! The ranges of addresses of a set.
+
+use crate::convert::{CoreV4, CoreV6, told_v4, told_v6};
+use crate::{AddressSet, IpNetwork, Network};
+use core::fmt;
+use core::iter::FusedIterator;
+use core::marker::PhantomData;
+use core::ops::RangeInclusive;
+use fosibegan_core::AddressSpace;
+use fosibegan_core::ipnetwork_family::CidrNetwork;
+
+/// An iterator over the ranges of addresses of an [`AddressSet`], in ascending order, IPv4 first:
+/// what [`AddressSet::ranges`] returns.
+///
+/// ```
+/// use fosibegan::{AddressSet, IpNetwork, Ranges};
+///
+/// let set = AddressSet::from(["10.0.0.0/8".parse::<IpNetwork>()?, "192.0.2.0/24".parse()?]);
+/// let mut ranges: Ranges<'_> = set.ranges();
+/// assert_eq!(ranges.next_back(), Some("192.0.2.0".parse()?..="192.0.2.255".parse()?));
+/// # Ok::<(), Box<dyn std::error::Error>>(())
+/// ```
+#[derive(Clone)]
+#[must_use = "iterators are lazy and do nothing unless consumed"]
+pub struct Ranges<'a, N: Network = IpNetwork> {
+    v4: Runs<'a, CoreV4>,
+    v6: Runs<'a, CoreV6>,
+    family: PhantomData<N>,
+}
+
+impl<N: Network> AddressSet<N> {
+    /// The addresses of the set as ranges with both ends included, in ascending order, IPv4 first.
+    /// Each range is as long as it can be: between two of them there is an address that is not in
+    /// the set, or the end of IPv4.
+    ///
+    /// ```
+    /// use fosibegan::{AddressSet, Ipv4Network};
+    ///
+    /// let set: AddressSet<Ipv4Network> =
+    ///     ["10.0.0.0/24".parse::<Ipv4Network>()?, "10.0.1.0/25".parse()?].into();
+    /// let ranges: Vec<String> = set
+    ///     .ranges()
+    ///     .map(|range| format!("{}-{}", range.start(), range.end()))
+    ///     .collect();
+    /// assert_eq!(ranges, ["10.0.0.0-10.0.1.127"]);
+    /// # Ok::<(), Box<dyn std::error::Error>>(())
+    /// ```
+    pub fn ranges(&self) -> Ranges<'_, N> {
+        Ranges {
+            v4: Runs::of(self.v4.blocks()),
+            v6: Runs::of(self.v6.blocks()),
+            family: PhantomData,
+        }
+    }
+}
+
+/// The runs of networks that follow each other without a gap, as their first and last addresses.
+#[derive(Clone)]
+pub(super) struct Runs<'a, C> {
+    rest: &'a [C],
+}
+
+impl<'a, C: AddressSpace> Runs<'a, C> {
+    /// Those of the networks of a set.
+    pub(super) fn of(blocks: &'a [C]) -> Self {
+        Runs { rest: blocks }
+    }
+
+    fn next_back(&mut self) -> Option<Ends<C>> {
+        let last = self.rest.last()?.broadcast();
+        let gap = self
+            .rest
+            .windows(2)
+            .rposition(|pair| !touch(pair[0], pair[1]));
+        let (rest, run) = self.rest.split_at(gap.map_or(0, |before| before + 1));
+        self.rest = rest;
+        Some((run[0].network(), last))
+    }
+
+    /// The least and the greatest number of runs that there may be.
+    fn size_hint(&self) -> (usize, usize) {
+        (self.rest.len().min(1), self.rest.len())
+    }
+}
+
+impl<C: AddressSpace> Iterator for Runs<'_, C> {
+    type Item = Ends<C>;
+
+    fn next(&mut self) -> Option<Ends<C>> {
+        let first = self.rest.first()?.network();
+        let gap = self
+            .rest
+            .windows(2)
+            .position(|pair| !touch(pair[0], pair[1]));
+        let (run, rest) = self
+            .rest
+            .split_at(gap.map_or(self.rest.len(), |before| before + 1));
+        self.rest = rest;
+        Some((first, run[run.len() - 1].broadcast()))
+    }
+}
+
+/// Whether the second network begins right behind the first.
+fn touch<C: AddressSpace>(first: C, second: C) -> bool {
+    C::next_address(first.broadcast()) == Some(second.network())
+}
+
+type Ends<C> = (<C as CidrNetwork>::Addr, <C as CidrNetwork>::Addr);
+
+fn of_v4<N: Network>((first, last): Ends<CoreV4>) -> RangeInclusive<N::Addr> {
+    N::address_of_v4(told_v4(first))..=N::address_of_v4(told_v4(last))
+}
+
+fn of_v6<N: Network>((first, last): Ends<CoreV6>) -> RangeInclusive<N::Addr> {
+    N::address_of_v6(told_v6(first))..=N::address_of_v6(told_v6(last))
+}
+
+impl<N: Network> Iterator for Ranges<'_, N> {
+    type Item = RangeInclusive<N::Addr>;
+
+    fn next(&mut self) -> Option<RangeInclusive<N::Addr>> {
+        match self.v4.next() {
+            Some(ends) => Some(of_v4::<N>(ends)),
+            None => self.v6.next().map(of_v6::<N>),
+        }
+    }
+
+    fn size_hint(&self) -> (usize, Option<usize>) {
+        let (v4, v6) = (self.v4.size_hint(), self.v6.size_hint());
+        (v4.0 + v6.0, Some(v4.1 + v6.1))
+    }
+}
+
+impl<N: Network> DoubleEndedIterator for Ranges<'_, N> {
+    fn next_back(&mut self) -> Option<RangeInclusive<N::Addr>> {
+        match self.v6.next_back() {
+            Some(ends) => Some(of_v6::<N>(ends)),
+            None => self.v4.next_back().map(of_v4::<N>),
+        }
+    }
+}
+
+impl<N: Network> FusedIterator for Ranges<'_, N> {}
+
+impl<N: Network> fmt::Debug for Ranges<'_, N> {
+    fn fmt(&self, f: &mut fmt::Formatter<'_>) -> fmt::Result {
+        f.debug_list().entries(self.clone()).finish()
+    }
+}
