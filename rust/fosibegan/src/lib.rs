@@ -11,18 +11,19 @@ mod map;
 mod network;
 mod set;
 
-pub use error::{IpNetworkError, NetworkSizeError};
+pub use error::{IpNetworkError, NetworkSizeError, WrongFamilyError};
 pub use map::{FrozenMap, PrefixMap};
 pub use network::{
-    IpNetwork, IpNetworkIterator, Ipv4Network, Ipv4NetworkIterator, Ipv6Network, Ipv6NetworkIterator, Network,
-    NetworkSize, ip_mask_to_prefix, ipv4_mask_to_prefix, ipv6_mask_to_prefix,
+    Exclude, Hosts, IpNetwork, IpNetworkIterator, Ipv4Network, Ipv4NetworkIterator, Ipv6Network,
+    Ipv6NetworkIterator, Network, NetworkSize, Subnets, Summarize, ip_mask_to_prefix,
+    ipv4_mask_to_prefix, ipv6_mask_to_prefix,
 };
 pub use set::AddressSet;
 
 /// The iterators of [`PrefixMap`] and [`FrozenMap`], and the entries of [`PrefixMap::entry`].
 pub mod prefix_map {
     pub use crate::map::{
-        CoveredBy, Covering, Entry, IntoIter, IntoKeys, IntoValues, Iter, IterMut, Keys, OccupiedEntry, VacantEntry,
-        Values, ValuesMut,
+        CoveredBy, Covering, Entry, IntoIter, IntoKeys, IntoValues, Iter, IterMut, Keys,
+        OccupiedEntry, VacantEntry, Values, ValuesMut,
     };
 }
