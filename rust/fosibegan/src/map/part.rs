@@ -19,8 +19,8 @@ pub(super) type Index<C> = RouteIndex<C, u32>;
 
 /// What finds the places of values.
 pub(super) trait Places<C: IndexedNetwork> {
-    /// The longest block that has the address, and where its value is.
-    fn longest(&self, addr: C::Addr) -> Option<(C, u32)>;
+    /// The prefix length of the longest block that has the address, and where its value is.
+    fn longest(&self, addr: C::Addr) -> Option<(u8, u32)>;
 
     /// The table of all blocks.
     fn table(&self) -> &Table<C>;
@@ -28,8 +28,9 @@ pub(super) trait Places<C: IndexedNetwork> {
 
 impl<C: IndexedNetwork> Places<C> for Table<C> {
     #[inline]
-    fn longest(&self, addr: C::Addr) -> Option<(C, u32)> {
-        self.lookup(addr)
+    fn longest(&self, addr: C::Addr) -> Option<(u8, u32)> {
+        let (block, place) = self.lookup(addr)?;
+        Some((block.prefix(), place))
     }
 
     #[inline]
@@ -40,8 +41,9 @@ impl<C: IndexedNetwork> Places<C> for Table<C> {
 
 impl<C: IndexedNetwork> Places<C> for Index<C> {
     #[inline]
-    fn longest(&self, addr: C::Addr) -> Option<(C, u32)> {
-        self.lookup(addr)
+    fn longest(&self, addr: C::Addr) -> Option<(u8, u32)> {
+        let (block, place) = self.lookup(addr)?;
+        Some((block.prefix(), place))
     }
 
     #[inline]
@@ -68,7 +70,7 @@ pub(super) struct Part<C, V, P> {
 
 /// The network with its host bits cleared.
 #[inline]
-pub(super) fn block_of<C: IndexedNetwork>(network: C) -> C {
+fn block_of<C: IndexedNetwork>(network: C) -> C {
     C::block_at(network.ip(), network.prefix())
 }
 
@@ -141,11 +143,11 @@ impl<C: IndexedNetwork, V, P: Places<C>> Part<C, V, P> {
         Some(place as usize)
     }
 
-    /// The longest block that has the address, and where its value is.
+    /// The prefix length of the longest block that has the address, and where its value is.
     #[inline]
-    pub(super) fn longest(&self, addr: C::Addr) -> Option<(C, usize)> {
-        let (block, place) = self.finder.as_ref()?.places.longest(addr)?;
-        Some((block, place as usize))
+    pub(super) fn longest(&self, addr: C::Addr) -> Option<(u8, usize)> {
+        let (prefix, place) = self.finder.as_ref()?.places.longest(addr)?;
+        Some((prefix, place as usize))
     }
 
     /// The blocks that have the network, from the shortest on.

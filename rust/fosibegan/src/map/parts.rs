@@ -1,12 +1,12 @@
 //! The entries of both families, as both kinds of maps have them.
 
 use super::both::Both;
-use super::part::{Index, Part, Places, Table, block_of};
+use super::part::{Index, Part, Places, Table};
 use super::part_iter::{PartCovering, PartIter, PartRange};
 use crate::convert::{CoreV4, CoreV6, asked_v4, asked_v6};
 use crate::{IpNetwork, Ipv4Network, Ipv6Network, Network};
 use core::marker::PhantomData;
-use core::net::IpAddr;
+use core::net::{IpAddr, Ipv4Addr, Ipv6Addr};
 
 /// The entries of both families. The part of a family that `N` has not stays empty.
 pub(super) struct Parts<N, V, P4, P6> {
@@ -35,11 +35,30 @@ pub(super) fn network_of_v6<N: Network>(block: CoreV6) -> N {
     N::of_v6(Ipv6Network::told(block))
 }
 
+/// The block of this prefix length that has the address. The core has it too, but to take it from
+/// there takes longer.
+#[inline]
+fn block_at_v4<N: Network>(addr: Ipv4Addr, prefix: u8) -> N {
+    match Ipv4Network::new_checked(addr, prefix) {
+        Some(network) => N::of_v4(network.block()),
+        None => unreachable!("a block has a prefix length of its family"),
+    }
+}
+
+/// The same of IPv6.
+#[inline]
+fn block_at_v6<N: Network>(addr: Ipv6Addr, prefix: u8) -> N {
+    match Ipv6Network::new_checked(addr, prefix) {
+        Some(network) => N::of_v6(network.block()),
+        None => unreachable!("a block has a prefix length of its family"),
+    }
+}
+
 /// The network with its host bits cleared.
 pub(super) fn block<N: Network>(network: N) -> N {
     match network.either() {
-        IpNetwork::V4(network) => network_of_v4(block_of(network.asked())),
-        IpNetwork::V6(network) => network_of_v6(block_of(network.asked())),
+        IpNetwork::V4(network) => N::of_v4(network.block()),
+        IpNetwork::V6(network) => N::of_v6(network.block()),
     }
 }
 
@@ -130,12 +149,12 @@ impl<N: Network, V, P4: Places<CoreV4>, P6: Places<CoreV6>> Parts<N, V, P4, P6> 
     pub(super) fn longest_match(&self, addr: N::Addr) -> Option<(N, &V)> {
         match N::either_address(addr) {
             IpAddr::V4(addr) => {
-                let (block, place) = self.v4.longest(asked_v4(addr))?;
-                Some((network_of_v4(block), self.v4.at(place)))
+                let (prefix, place) = self.v4.longest(asked_v4(addr))?;
+                Some((block_at_v4(addr, prefix), self.v4.at(place)))
             }
             IpAddr::V6(addr) => {
-                let (block, place) = self.v6.longest(asked_v6(addr))?;
-                Some((network_of_v6(block), self.v6.at(place)))
+                let (prefix, place) = self.v6.longest(asked_v6(addr))?;
+                Some((block_at_v6(addr, prefix), self.v6.at(place)))
             }
         }
     }
@@ -144,12 +163,12 @@ impl<N: Network, V, P4: Places<CoreV4>, P6: Places<CoreV6>> Parts<N, V, P4, P6> 
     pub(super) fn longest_match_mut(&mut self, addr: N::Addr) -> Option<(N, &mut V)> {
         match N::either_address(addr) {
             IpAddr::V4(addr) => {
-                let (block, place) = self.v4.longest(asked_v4(addr))?;
-                Some((network_of_v4(block), self.v4.at_mut(place)))
+                let (prefix, place) = self.v4.longest(asked_v4(addr))?;
+                Some((block_at_v4(addr, prefix), self.v4.at_mut(place)))
             }
             IpAddr::V6(addr) => {
-                let (block, place) = self.v6.longest(asked_v6(addr))?;
-                Some((network_of_v6(block), self.v6.at_mut(place)))
+                let (prefix, place) = self.v6.longest(asked_v6(addr))?;
+                Some((block_at_v6(addr, prefix), self.v6.at_mut(place)))
             }
         }
     }
