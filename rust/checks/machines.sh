@@ -25,10 +25,13 @@ units() {
     counted
 }
 counted() { passed=$((passed + $(awk '/^test result: ok/ { count += $4 } END { print count + 0 }' "$out/units.log"))); }
-# ARGUMENT..: the tests of fosibegan, in its folder, where cargo needs no registry.
-of_fosibegan() {
-    CARGO_PROFILE_TEST_OPT_LEVEL=2 quiet units.log env -C "$tests/fosibegan" cargo test --offline --lib --tests "$@"
-    counted
+# ARGUMENT..: the tests of fosibegan and of ipnetwork over it, in their folders, where cargo needs no registry.
+by_hand_units() {
+    local folder
+    for folder in fosibegan patched/plain; do
+        IPNETWORK_ROWS=20000 quiet units.log env -C "$tests/$folder" cargo test --offline --lib --tests "$@"
+        counted
+    done
 }
 # ARGUMENT..: the unit tests of all packages.
 all_units() {
@@ -38,7 +41,7 @@ all_units() {
     for package in cidr_programs cidr cidr_merge cidr_filter cidr_join cidr_info; do
         units Cargo.toml -p "$package" --lib --bins --tests "$@"
     done
-    of_fosibegan "$@"
+    by_hand_units "$@"
 }
 
 step "other compilers"
@@ -73,8 +76,8 @@ narrow() {
     if [ "$serde" = yes ]; then
         passed=0
         by "$least" units fosibegan_core --test widths --target "$target"
-        by "$least" of_fosibegan --target "$target"
-        echo "$name: $passed tests of casts and of fosibegan passed"
+        by "$least" by_hand_units --target "$target"
+        echo "$name: $passed tests passed, of casts, fosibegan and ipnetwork over it"
     else
         skip "$name: casts" "serde_json in $registry" librust-serde-json-dev
     fi
