@@ -104,10 +104,12 @@ def from_rust(run, rows):
     tools("rustc")
     calls = {"read4": ("parse", "IPv4"), "read6": ("parse", "IPv6"), "has4": ("contains", "IPv4"), "has6": ("contains", "IPv6"),
              "print6": ("print", "IPv6")}
-    below = run.folder / "libfosibegan_core.rlib"
-    library = ["rustc", "--edition", "2024", *RUSTC[3:], "--crate-type", "rlib", "--crate-name", "fosibegan_core"]
-    said([*library, "-o", below, TOP / "rust/fosibegan_core/src/lib.rs"])
-    ours = rust_times(run, "ours", TOP / "rust/ipnetwork", "--extern", f"fosibegan_core={below}")
+    below = ["-L", run.folder]
+    for name in ("fosibegan_core", "fosibegan"):
+        library = ["rustc", "--edition", "2024", *RUSTC[3:], "--crate-type", "rlib", "--crate-name", name, "--out-dir", run.folder]
+        said([*library, *below, TOP / f"rust/{name}/src/lib.rs"])
+        below += ["--extern", f"{name}={run.folder}/lib{name}.rlib"]
+    ours = rust_times(run, "ours", TOP / "rust/ipnetwork", *below)
     own, plain = ours["this crate"], ours["plain Rust"]
     rows.add_own("Rust", {column: own.get(call) for column, call in calls.items()})
     rows.add_peer("`std::net`", {column: plain.get(call) for column, call in calls.items()})

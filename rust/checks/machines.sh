@@ -22,7 +22,16 @@ units() {
     local manifest="$1"
     shift
     quiet units.log cargo test --offline --config "$out/sources.toml" --manifest-path "$tests/$manifest" "$@"
-    passed=$((passed + $(awk '/^test result: ok/ { count += $4 } END { print count + 0 }' "$out/units.log")))
+    counted
+}
+counted() { passed=$((passed + $(awk '/^test result: ok/ { count += $4 } END { print count + 0 }' "$out/units.log"))); }
+# ARGUMENT..: the tests of fosibegan and of ipnetwork over it, in their folders, where cargo needs no registry.
+by_hand_units() {
+    local folder
+    for folder in fosibegan patched/plain; do
+        IPNETWORK_ROWS=20000 quiet units.log env -C "$tests/$folder" cargo test --offline --lib --tests "$@"
+        counted
+    done
 }
 # ARGUMENT..: the unit tests of all packages.
 all_units() {
@@ -32,6 +41,7 @@ all_units() {
     for package in cidr_programs cidr cidr_merge cidr_filter cidr_join cidr_info; do
         units Cargo.toml -p "$package" --lib --bins --tests "$@"
     done
+    by_hand_units "$@"
 }
 
 step "other compilers"
@@ -50,8 +60,8 @@ for version in $versions; do
     fi
 done
 
-# NAME TOOLS QEMU TARGET: where a `usize` has 32 bits, the casts to it, and the library for C. TOOLS is what precedes the
-# names of gcc and ld for the machine, and QEMU the name of its qemu.
+# NAME TOOLS QEMU TARGET: where a `usize` has 32 bits, the casts to it, fosibegan, and the library for C. TOOLS is what
+# precedes the names of gcc and ld for the machine, and QEMU the name of its qemu.
 narrow() {
     local name="$1" tools="$2" qemu="$3" target="$4" variable library="$out/target_$least/$4/release/libipnetwork_c.a" test
     step "$name"
@@ -66,7 +76,8 @@ narrow() {
     if [ "$serde" = yes ]; then
         passed=0
         by "$least" units fosibegan_core --test widths --target "$target"
-        echo "$name: $passed tests of casts passed"
+        by "$least" by_hand_units --target "$target"
+        echo "$name: $passed tests passed, of casts, fosibegan and ipnetwork over it"
     else
         skip "$name: casts" "serde_json in $registry" librust-serde-json-dev
     fi

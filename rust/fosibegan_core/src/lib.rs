@@ -1,8 +1,10 @@
-//! IP networks in CIDR notation: read from texts, printed, and asked about the set of addresses that they stand for;
-//! with routing tables, blocks, aggregation, sets of addresses and indexes for fast look-ups.
+//! The implementation of the crate `fosibegan`. **Use that one:** it has these networks, sets and tables over the addresses
+//! of `std::net`, with the traits and conversions of Rust's standard library.
 //!
-//! Made of proved sources, and tested: each module below but [`plain_std`] is written, by taking away contracts and what
-//! is only for proofs, out of a crate of which every function is proved to meet its contract.
+//! Here they are as a script writes them of proved sources: each module below but [`plain_std`] is a crate of which every
+//! function is proved to meet its contract, without the contracts and what is only for proofs. What is left is tested.
+//! Names here may change with any version. What allocates takes [`plain_std::alloc::Global`], and returns an `AllocError` if
+//! there is no memory.
 //!
 //! ```
 //! use fosibegan_core::plain_std::alloc::Global;
@@ -18,8 +20,6 @@
 //! # Ok(())
 //! # });
 //! ```
-//!
-//! What allocates is given [`plain_std::alloc::Global`], and tells with an `AllocError` that there is no memory.
 #![no_std]
 #![deny(unsafe_code)]
 // The sources have the forms that their proofs need.

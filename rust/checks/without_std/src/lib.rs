@@ -3,6 +3,7 @@
 #![no_std]
 
 use core::alloc::{GlobalAlloc, Layout};
+use core::net::Ipv4Addr;
 use core::slice;
 
 use fosibegan_core::ipnetwork_index::AddressIndex;
@@ -39,4 +40,15 @@ pub extern "C" fn without_std(byte: &u8, network: &Ipv4Network) -> u8 {
     let set = AddressSet::from_networks(Vec::new(Global));
     let indexed = AddressIndex::<Ipv4Network>::from_set(Global, &set).is_ok();
     u8::from(kept) + u8::from(found) + u8::from(indexed)
+}
+
+/// Asks a set and a map of the library over the addresses of core.
+#[no_mangle]
+pub extern "C" fn without_std_either(number: u32) -> bool {
+    let addr = Ipv4Addr::from(number);
+    let network = fosibegan::IpNetwork::from(addr);
+    let set: fosibegan::AddressSet = [network].into_iter().collect();
+    let mut map = fosibegan::PrefixMap::new();
+    map.insert(network, number);
+    set.contains(addr.into()) && map.longest_match(addr.into()).is_some()
 }
