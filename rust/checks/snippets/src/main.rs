@@ -1,5 +1,7 @@
 //! Uses of the crate `ipnetwork` as programs have them. Each is printed with what it gives: built with
-//! the crate and with what takes its place, both have to compile, and to print the same.
+//! the crate and with what takes its place, both have to compile, and to print the same. The `Debug` of
+//! a network is not compared: that of 0.21.1 names its parts, and that of what takes its place is its
+//! text (`as_texts`).
 
 use ipnetwork::*;
 use serde::{Deserialize, Serialize};
@@ -11,12 +13,27 @@ use std::hash::{Hash, Hasher};
 use std::mem::{align_of, size_of};
 use std::net::{AddrParseError, IpAddr, Ipv4Addr, Ipv6Addr};
 use std::str::FromStr;
+use std::sync::{Arc, OnceLock, RwLock};
 
 /// Prints each expression and its value.
 macro_rules! show {
     ($($name:literal: $value:expr;)*) => {
-        $(println!("{}: {:?}", $name, $value);)*
+        $(println!("{}: {}", $name, as_texts(format!("{:?}", $value)));)*
     };
+}
+
+/// What was printed for debugging, with the text of each network that names its parts there.
+fn as_texts(mut printed: String) -> String {
+    for (start, variant) in [("Ipv4Network { addr: ", "V4("), ("Ipv6Network { addr: ", "V6(")] {
+        while let Some(from) = printed.find(start) {
+            let to = from + printed[from..].find(" }").expect("a struct has an end");
+            let text = printed[from + start.len()..to].replace(", prefix: ", "/");
+            let of_either = printed[..from].ends_with(variant);
+            let all = if of_either { from - variant.len()..to + 3 } else { from..to + 2 };
+            printed.replace_range(all, &text);
+        }
+    }
+    printed
 }
 
 #[rustfmt::skip]
@@ -421,6 +438,136 @@ fn members() {
     }
 }
 
+/// A struct with derives over networks, as programs keep them.
+#[derive(Clone, Copy, Debug, PartialEq, Eq, PartialOrd, Ord, Hash)]
+struct Rule {
+    from: IpNetwork,
+    to: Option<Ipv4Network>,
+    allowed: bool,
+}
+
+/// The error of a program, made of those of the crate by `?`.
+enum Failed {
+    Network(IpNetworkError),
+    Size(NetworkSizeError),
+}
+
+impl From<IpNetworkError> for Failed {
+    fn from(error: IpNetworkError) -> Failed {
+        Failed::Network(error)
+    }
+}
+
+impl From<NetworkSizeError> for Failed {
+    fn from(error: NetworkSizeError) -> Failed {
+        Failed::Size(error)
+    }
+}
+
+fn members_of(text: &str) -> Result<u32, Failed> {
+    let network: IpNetwork = text.parse()?;
+    Ok(network.size().try_into()?)
+}
+
+/// What reads an argument of a command line, as crates for these have it.
+fn argument<T>(text: &str) -> Result<T, Box<dyn Error + Send + Sync>>
+where
+    T: FromStr + Clone + Send + Sync + 'static,
+    T::Err: Into<Box<dyn Error + Send + Sync + 'static>>,
+{
+    text.parse::<T>().map_err(Into::into)
+}
+
+fn any_has(networks: impl IntoIterator<Item = impl Into<IpNetwork>>, address: IpAddr) -> bool {
+    networks.into_iter().any(|network| network.into().contains(address))
+}
+
+static KNOWN: OnceLock<Vec<IpNetwork>> = OnceLock::new();
+
+fn idioms() {
+    let asked = Ipv4Addr::new(192, 0, 2, 78);
+    let wide = v4("192.0.0.0/16");
+    show! {
+        "networks that have an address":
+            v4s().iter().filter(|network| network.contains(asked)).collect::<Vec<_>>();
+        "values that have an address":
+            v4s().into_iter().filter(|network| network.contains(asked)).collect::<Vec<_>>();
+        "the first that has it": v4s().iter().find(|network| network.contains(asked)).copied();
+        "where it is": eithers().iter().position(|network| network.contains(asked.into()));
+        "the longest that has it":
+            v4s().into_iter().filter(|each| each.contains(asked)).max_by_key(|each| each.prefix());
+        "those that lie in another":
+            v4s().into_iter().filter(|each| each.is_subnet_of(wide)).count();
+        "those that another has":
+            v4s().into_iter().all(|each| !each.is_supernet_of(wide));
+        "pairs that overlap":
+            v4s().iter().flat_map(|a| v4s().into_iter().map(move |b| a.overlaps(b)))
+                .filter(|both| *both).count();
+        "retained": { let mut list = v6s(); list.retain(|each| each.prefix() > 64); list };
+        "options":
+            (Some(wide).map(Ipv4Network::prefix), Some(&wide).map(Ipv4Network::network),
+                Some(v6("::1/64")).as_ref().map(Ipv6Network::ip),
+                Some(either("::1/64")).as_ref().map_or(0, IpNetwork::prefix));
+        "closures with a type":
+            (v4s().iter().map(|each: &Ipv4Network| each.size()).max(),
+                v6s().iter().map(|each: &Ipv6Network| each.size()).max());
+        "sizes as numbers":
+            (v4("10.0.0.0/8").size() as usize, u64::from(v4("10.0.0.0/8").size()),
+                f64::from(v4("10.0.0.0/30").size()), v6("::/64").size() as f64);
+        "groups": v4s().into_iter().fold(BTreeMap::<u8, Vec<_>>::new(), |mut groups, each| {
+            groups.entry(each.prefix()).or_default().push(each);
+            groups
+        });
+        "entries": {
+            let mut counts = HashMap::new();
+            eithers().iter().chain(&eithers()).for_each(|each| *counts.entry(*each).or_insert(0) += 1);
+            counts.values().all(|count| *count == 2)
+        };
+        "kept once": { let mut list = v4s(); list.extend(v4s()); list.sort(); list.dedup(); list.len() };
+        "rules": {
+            let rule = |from, to: Option<&str>| Rule { from: either(from), to: to.map(v4), allowed: true };
+            let rules = BTreeSet::from([rule("::/0", None), rule("10.0.0.0/8", Some("11.0.0.0/8"))]);
+            (hash(rules.first()), rules)
+        };
+        "errors of a program":
+            ["10.0.0.0/8", "::/64", "x"].map(|text| members_of(text).map_err(|why| match why {
+                Failed::Network(why) => why.to_string(),
+                Failed::Size(why) => why.to_string(),
+            }));
+        "arguments":
+            (argument::<Ipv4Network>("10.0.0.0/8").ok(), argument::<IpNetwork>("x")
+                .map_err(|error| error.to_string()));
+        "what is either":
+            (any_has(v4s(), asked.into()), any_has(v6s(), asked.into()),
+                any_has([IpAddr::from(asked)], asked.into()));
+        "known once": KNOWN.get_or_init(eithers).len();
+        "shared": { let list: Arc<[IpNetwork]> = eithers().into(); Arc::clone(&list)[0] };
+        "behind a lock": RwLock::new(v4s()).write().unwrap().pop();
+        "texts that are taken": {
+            let (owned, borrowed): (String, &str) = ("10.0.0.0/8".into(), "::/8");
+            let first: Result<Ipv4Network, _> = owned.as_str().try_into();
+            let second: Result<Ipv6Network, _> = borrowed.try_into();
+            (first, second, IpNetwork::try_from(&*owned), IpNetwork::from_str(&owned))
+        };
+        "boxed members": {
+            let all: Vec<Box<dyn Iterator<Item = IpAddr>>> = vec![
+                Box::new(either("10.0.0.0/31").iter()), Box::new(v6("::/127").iter().map(IpAddr::from))];
+            all.into_iter().flatten().collect::<Vec<_>>()
+        };
+        "octets": v4("10.0.0.0/30").iter().map(|address| address.octets()[3]).sum::<u8>();
+        "numbered members":
+            { let mut last = None; for each in v4("10.0.0.9/29").iter().enumerate() { last = Some(each); }
+                last };
+        "members by reference": { let network = v4("10.0.0.0/30"); (&network).into_iter().count() };
+        "refused in words":
+            Ipv4Network::new(asked, 40).map(|it| it.to_string()).unwrap_or_else(|why| why.to_string());
+        "an error with a text":
+            matches!("y".parse::<IpNetwork>(), Err(IpNetworkError::InvalidAddr(ref of)) if of == "y");
+        "what survives a panic":
+            std::panic::catch_unwind(|| v4s().iter().map(Ipv4Network::network).max()).ok();
+    }
+}
+
 fn several() -> Result<Ipv4Network, IpNetworkError> {
     let address: Ipv4Addr = "10.0.0.1".parse()?;
     let network = Ipv4Network::new(address, ipv4_mask_to_prefix("255.0.0.0".parse()?)?)?;
@@ -462,8 +609,6 @@ fn texts_and_errors() {
             boxed("::/8").unwrap_err().downcast_ref::<NetworkSizeError>().copied();
         "networks printed":
             format!("{} {} {}", v4("10.0.0.1/8"), v6("::FFFF:a00:1/104"), either("2001:DB8::/32"));
-        "networks printed for debugging":
-            format!("{:?} {:?} {:#?}", v4("10.0.0.1/8"), v6("::1/8"), either("::1/8"));
         "sizes printed":
             format!("{} {} [{:>9}] [{:<9}] [{:09}] [{:+}]", NetworkSize::V4(1),
                 NetworkSize::V6(u128::MAX), NetworkSize::V4(7), NetworkSize::V6(7),
@@ -510,6 +655,7 @@ fn main() {
     bounds();
     collections();
     members();
+    idioms();
     texts_and_errors();
     json();
 }

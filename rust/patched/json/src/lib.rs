@@ -1,4 +1,4 @@
-//! A program that keeps networks in JSON by the default features of the crate `ipnetwork` 0.21.
+//! A program that keeps networks in JSON by the feature `serde` of the crate `ipnetwork` 0.21.
 
 use ipnetwork::{IpNetwork, Ipv4Network, Ipv6Network};
 use serde::{Deserialize, Serialize};

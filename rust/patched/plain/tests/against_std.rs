@@ -115,9 +115,7 @@ macro_rules! questions {
                 assert_eq!($mask_to_prefix(ones), Ok(p));
                 assert_eq!(one.size(), (hosts as $number).saturating_add(1), "{one}");
                 assert_eq!(hash(one), hash((at(a), p)));
-                let (name, address) = (stringify!($network), at(a));
-                let debugged = format!("{name} {{ addr: {address}, prefix: {p} }}");
-                assert_eq!(format!("{one:?}"), debugged);
+                assert_eq!(format!("{one:?}"), format!("{}/{p}", at(a)));
             }
 
             /// A network as one of either family, beside itself.

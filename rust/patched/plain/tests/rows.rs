@@ -105,10 +105,7 @@ fn families() {
     assert_eq!(IpNetwork::from(ip("2001:db8::1")), either("2001:db8::1"));
     assert_eq!(Ipv4Network::from(Ipv4Addr::LOCALHOST), v4("127.0.0.1"));
     assert_eq!(Ipv6Network::from(Ipv6Addr::LOCALHOST), v6("::1/128"));
-    assert_eq!(
-        format!("{:?}", either("10.1.9.32/16")),
-        "V4(Ipv4Network { addr: 10.1.9.32, prefix: 16 })"
-    );
+    assert_eq!(format!("{:?}", either("10.1.9.32/16")), "10.1.9.32/16");
 }
 
 #[test]
@@ -145,8 +142,10 @@ fn members_at_the_ends() {
         Some(Ipv4Addr::new(255, 255, 255, 254))
     );
     assert_eq!(all.nth(4_294_967_295), None);
-    assert_eq!(all.iter().nth(4_294_967_295), Some(Ipv4Addr::BROADCAST));
-    assert_eq!(all.iter().nth(4_294_967_296), None);
+    let mut members = all.iter();
+    assert_eq!(members.nth(4_294_967_294).map(u32::from), Some(u32::MAX - 1));
+    assert_eq!(members.clone().nth(0), Some(Ipv4Addr::BROADCAST));
+    assert_eq!(members.nth(1), None);
     assert_eq!(all.iter().next_back(), Some(Ipv4Addr::BROADCAST));
     let mut end = v4("255.255.255.0/24").iter();
     assert_eq!(end.by_ref().last(), Some(Ipv4Addr::BROADCAST));
