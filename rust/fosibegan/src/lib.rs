@@ -1,4 +1,106 @@
-//! IP networks in CIDR notation, sets of addresses and longest-prefix maps, over the addresses of `std::net`.
+//! IP networks in CIDR notation, sets of addresses, and maps that find the longest network of an
+//! address, over the addresses of `std::net`.
+//!
+//! IPv4 and IPv6 work together, in one set or map, or each alone. Answers are right at the edges as
+//! well: at prefix length 0, at 255.255.255.255, and for networks with host bits.
+//!
+//! An allow list, made of what people write:
+//!
+//! ```
+//! use fosibegan::{AddressSet, IpNetwork};
+//! use std::net::IpAddr;
+//!
+//! let allowed: AddressSet = ["10.0.0.0/8", "192.0.2.7", "2001:db8::/32"]
+//!     .iter()
+//!     .map(|text| text.parse::<IpNetwork>())
+//!     .collect::<Result<_, _>>()?;
+//!
+//! // A socket that listens for both families reports 10.1.2.3 as ::ffff:10.1.2.3.
+//! let client: IpAddr = "::ffff:10.1.2.3".parse()?;
+//! assert!(allowed.contains(client.to_canonical()));
+//! assert!(!allowed.contains("192.0.2.8".parse()?));
+//! # Ok::<(), Box<dyn std::error::Error>>(())
+//! ```
+//!
+//! # What to use
+//!
+//! | To | Use |
+//! |---|---|
+//! | allow or deny addresses by a list | [`AddressSet`]; [`FrozenSet`] once it no longer changes |
+//! | compare, join or subtract lists | [`union`], [`intersection`], [`difference`], [`complement`], or `\| & - ^ !` on sets |
+//! | find the longest network of an address: routes, zones, owners | [`PrefixMap`]; [`FrozenMap`] once it no longer changes |
+//! | keep a ledger: what is used of a pool, what is free | [`first_free`], [`free_in`], [`largest_free`] |
+//! | ask about one network: first and last address, mask, members | [`IpNetwork`], [`Ipv4Network`], [`Ipv6Network`] |
+//! | split and join networks | [`subnets`], [`supernet`], [`exclude`], [`hosts`], [`aggregate`] |
+//! | turn a range of addresses into networks, and back | [`summarize`], [`AddressSet::ranges`] |
+//! | read texts, and say what is wrong with one | [`str::parse`], [`IpNetwork::cause_of`] |
+//! | count addresses exactly | [`AddressSet::address_count`] |
+//! | write code for any of the three types of networks | [`Network`] |
+//!
+//! [`union`]: AddressSet::union
+//! [`intersection`]: AddressSet::intersection
+//! [`difference`]: AddressSet::difference
+//! [`complement`]: AddressSet::complement
+//! [`first_free`]: AddressSet::first_free
+//! [`free_in`]: AddressSet::free_in
+//! [`largest_free`]: AddressSet::largest_free
+//! [`subnets`]: IpNetwork::subnets
+//! [`supernet`]: IpNetwork::supernet
+//! [`exclude`]: IpNetwork::exclude
+//! [`hosts`]: IpNetwork::hosts
+//! [`aggregate`]: IpNetwork::aggregate
+//! [`summarize`]: IpNetwork::summarize
+//!
+//! Sets and maps are of [`IpNetwork`], so of both families, unless another type is named:
+//! `AddressSet<Ipv4Network>` has IPv4 alone, and is asked for an `Ipv4Addr`. `AddressSet::new()` and
+//! `PrefixMap::new()` are for both; those of one family are made by `AddressSet::default()`,
+//! `collect()` or `from`.
+//!
+//! # IPv4-mapped addresses
+//!
+//! `::ffff:10.1.2.3` is the form that 10.1.2.3 has on an IPv6 socket. It is an IPv6 address, and so
+//! in no IPv4 network: a deny list that has `10.0.0.0/8` does not stop it. Ask for
+//! `addr.to_canonical()`, which turns it into 10.1.2.3 and leaves every other address as it is. If a
+//! list may name networks in the mapped form too, ask [`AddressSet::contains_mapped`] or
+//! [`PrefixMap::longest_match_mapped`], for which either form counts.
+//!
+//! # Texts
+//!
+//! A network is read from an address, and after a `/` a prefix length or, in IPv4, a mask:
+//! `10.1.2.3/8`, `10.1.2.3/255.0.0.0`, `2001:db8::/32`. An address alone is a network of that one
+//! address. Host bits are kept: `10.1.2.3/8` is printed as it was read, and has the same addresses
+//! as `10.0.0.0/8`. Octets with leading zeros, zones (`%eth0`), ports and brackets are refused.
+//!
+//! # Features
+//!
+//! None is on by default. The crate is `no_std`, with `alloc`, and needs Rust 1.85.
+//!
+//! | Feature | Has |
+//! |---|---|
+//! | `serde` | `Serialize` and `Deserialize`: networks are texts in formats that people read, and bytes in others; sets and maps are lists |
+//! | `schemars` | `JsonSchema` of the networks, for `schemars` 0.8 |
+//! | `proptest` | `Arbitrary` for networks, sets and maps |
+//!
+//! # How far to trust it
+//!
+//! * **Made of proved sources, and tested:** the crate `fosibegan_core` reads and prints networks,
+//!   and has the sets, the maps, the indexes, blocks and aggregation. It is the Rust that is left of
+//!   a library with contracts when these are taken away. That library is proved: each of its
+//!   functions is shown, by machine, to meet its contract. What `rustc` builds of it is not.
+//! * **Written by hand, and tested:** this crate, which puts those answers in the form of `std`.
+//!   Questions about one network are answered here, so that they are `const` and need no conversion:
+//!   `new`, `new_checked`, `with_netmask`, `ip`, `prefix`, `mask`, `network`, `broadcast`, `range`,
+//!   `contains`, `size`, `nth`, `iter`, `is_subnet_of`, `is_supernet_of`, `overlaps`, `block`, `next`,
+//!   `previous`, and the prefix lengths of masks. A test compares each with the core, at every prefix
+//!   length, at both ends of the address space, and on ten million random pairs. Sets and maps are
+//!   compared with a `BTreeSet` of addresses and with lists that are gone through.
+//! * **Trusted:** `rustc`, LLVM, `core` and `alloc`, and the script that takes the contracts away.
+//!   This crate forbids unsafe code. The core has a small module of it, for vector instructions;
+//!   `RUSTFLAGS="--cfg portable"` leaves all but one line of it out.
+//!
+//! # Coming from other crates
+//!
+//! [`migration`] has a page each for those who know `ipnet`, `ipnetwork`, or `std::net` alone.
 #![no_std]
 #![deny(missing_docs)]
 #![forbid(unsafe_code)]
@@ -18,3 +120,16 @@ pub use network::{
     NetworkSize, ip_mask_to_prefix, ipv4_mask_to_prefix, ipv6_mask_to_prefix,
 };
 pub use set::AddressSet;
+
+/// For those who know another crate: what has which name here, and what to watch.
+///
+/// These pages exist only in the documentation.
+#[cfg(any(doc, doctest))]
+pub mod migration {
+    #[doc = include_str!("../docs/from_ipnet.md")]
+    pub mod from_ipnet {}
+    #[doc = include_str!("../docs/from_ipnetwork.md")]
+    pub mod from_ipnetwork {}
+    #[doc = include_str!("../docs/from_std.md")]
+    pub mod from_std {}
+}
