@@ -12,7 +12,7 @@ fn program(example: &str) -> Command {
     path.pop();
     path.set_file_name("examples");
     path.push(format!("{example}{}", std::env::consts::EXE_SUFFIX));
-    assert!(path.is_file(), "{} is not built: cargo test --examples", path.display());
+    assert!(path.is_file(), "{} is not built: run cargo test without naming targets", path.display());
     Command::new(path)
 }
 
