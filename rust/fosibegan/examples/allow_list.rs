@@ -36,7 +36,7 @@ impl AllowList {
         Arc::clone(&self.current.read().unwrap_or_else(PoisonError::into_inner))
     }
 
-    /// A socket that listens for both families reports 10.1.2.3 as ::ffff:10.1.2.3.
+    /// A socket that listens for both families reports 10.1.2.3 as `::ffff:10.1.2.3`.
     fn allows(&self, client: IpAddr) -> bool {
         self.current().contains(client.to_canonical())
     }
@@ -50,7 +50,8 @@ fn read(path: &Path) -> Result<FrozenSet, String> {
     for (number, line) in (1..).zip(text.lines()) {
         let entry = line.split('#').next().unwrap_or_default().trim();
         if !entry.is_empty() {
-            let network = network(entry).map_err(|why| format!("{file}:{number}: {entry}: {why}"))?;
+            let network =
+                network(entry).map_err(|why| format!("{file}:{number}: {entry}: {why}"))?;
             networks.push(network);
         }
     }

@@ -23,7 +23,11 @@ struct Ledger {
 
 impl Ledger {
     fn new(pool: IpNetwork) -> Self {
-        Self { pool, used: AddressSet::new(), holders: PrefixMap::new() }
+        Self {
+            pool,
+            used: AddressSet::new(),
+            holders: PrefixMap::new(),
+        }
     }
 
     /// Gives the first free block of this prefix length to a holder.
@@ -49,7 +53,10 @@ impl Ledger {
 
     /// Takes back a block that is held as a whole, and says who held it.
     fn release(&mut self, block: IpNetwork) -> Result<String, String> {
-        let holder = self.holders.remove(block).ok_or_else(|| format!("nobody holds {block}"))?;
+        let holder = self
+            .holders
+            .remove(block)
+            .ok_or_else(|| format!("nobody holds {block}"))?;
         self.used.remove(block);
         Ok(holder)
     }
@@ -60,20 +67,31 @@ fn change(ledger: &mut Ledger, line: &str) -> Result<String, String> {
     let words: Vec<&str> = line.split_whitespace().collect();
     match words[..] {
         ["next", prefix, holder] => {
-            let prefix = prefix.parse().map_err(|_| format!("{prefix} is no prefix length"))?;
-            ledger.next(prefix, holder).map(|block| format!("{block} {holder}"))
+            let prefix = prefix
+                .parse()
+                .map_err(|_| format!("{prefix} is no prefix length"))?;
+            ledger
+                .next(prefix, holder)
+                .map(|block| format!("{block} {holder}"))
         }
         ["take", block, holder] => {
             let block = network(block)?.block();
-            ledger.take(block, holder).map(|()| format!("{block} {holder}"))
+            ledger
+                .take(block, holder)
+                .map(|()| format!("{block} {holder}"))
         }
         ["release", block] => {
             let block = network(block)?.block();
-            ledger.release(block).map(|holder| format!("{block} released by {holder}"))
+            ledger
+                .release(block)
+                .map(|holder| format!("{block} released by {holder}"))
         }
         ["free"] => {
-            let free: Vec<String> =
-                ledger.used.free_in(ledger.pool).map(|block| block.to_string()).collect();
+            let free: Vec<String> = ledger
+                .used
+                .free_in(ledger.pool)
+                .map(|block| block.to_string())
+                .collect();
             Ok(format!("free: {}", free.join(" ")))
         }
         _ => Err(format!("{line}: what is to be done?")),
@@ -81,13 +99,23 @@ fn change(ledger: &mut Ledger, line: &str) -> Result<String, String> {
 }
 
 fn main() -> ExitCode {
-    let Some(pool) = env::args().nth(1).and_then(|pool| pool.parse::<IpNetwork>().ok()) else {
+    let Some(pool) = env::args()
+        .nth(1)
+        .and_then(|pool| pool.parse::<IpNetwork>().ok())
+    else {
         eprintln!("usage: ledger POOL");
         return ExitCode::from(2);
     };
     let mut ledger = Ledger::new(pool.block());
     let mut status = ExitCode::SUCCESS;
-    for line in io::stdin().lines().map_while(Result::ok) {
+    for line in io::stdin().lines() {
+        let line = match line {
+            Ok(line) => line,
+            Err(error) => {
+                eprintln!("standard input: {error}");
+                return ExitCode::FAILURE;
+            }
+        };
         match change(&mut ledger, &line) {
             Ok(done) => println!("{done}"),
             Err(why) => {

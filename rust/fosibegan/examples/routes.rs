@@ -1,4 +1,4 @@
-//! The routes of a router: of all networks that have an address, the longest says where to send.
+//! The routes of a router: the most specific network that contains an address says where to send.
 //!
 //! `cargo run --example routes ADDRESS..` prints where packets for each address go. The status is 1
 //! if there is no route for one of them.

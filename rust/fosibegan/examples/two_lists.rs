@@ -12,7 +12,9 @@ use std::{env, fs};
 /// Reads a list: a network or an address on each line; a `#` begins a comment.
 fn read(file: &str) -> Result<AddressSet, String> {
     let text = fs::read_to_string(file).map_err(|error| format!("{file}: {error}"))?;
-    let entries = text.lines().map(|line| line.split('#').next().unwrap_or_default().trim());
+    let entries = text
+        .lines()
+        .map(|line| line.split('#').next().unwrap_or_default().trim());
     (1..)
         .zip(entries)
         .filter(|(_, entry)| !entry.is_empty())

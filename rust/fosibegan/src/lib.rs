@@ -1,10 +1,10 @@
-//! IP networks in CIDR notation, sets of addresses, and maps that find the longest network of an
-//! address, over the addresses of `std::net`.
+//! IP networks in CIDR notation, sets of addresses, and maps with longest-prefix match, over the
+//! address types of `std::net`.
 //!
-//! IPv4 and IPv6 work together, in one set or map, or each alone. Answers are right at the edges as
-//! well: at prefix length 0, at 255.255.255.255, and for networks with host bits.
+//! IPv4 and IPv6 work together in one set or map, or each on its own. The answers are right at the
+//! edges too: at prefix length 0, at 255.255.255.255, and for networks with host bits.
 //!
-//! An allow list, made of what people write:
+//! An allow list, read from what people write:
 //!
 //! ```
 //! use fosibegan::{AddressSet, IpNetwork};
@@ -27,11 +27,11 @@
 //! | To | Use |
 //! |---|---|
 //! | allow or deny addresses by a list | [`AddressSet`]; [`FrozenSet`] once it no longer changes |
-//! | compare, join or subtract lists | [`union`], [`intersection`], [`difference`], [`complement`], or `\| & - ^ !` on sets |
-//! | find the longest network of an address: routes, zones, owners | [`PrefixMap`]; [`FrozenMap`] once it no longer changes |
-//! | keep a ledger: what is used of a pool, what is free | [`first_free`], [`free_in`], [`largest_free`] |
+//! | compare, merge or subtract lists | [`union`], [`intersection`], [`difference`], [`complement`], or `\| & - ^ !` on sets |
+//! | find the most specific network that contains an address: routes, zones, owners | [`PrefixMap`]; [`FrozenMap`] once it no longer changes |
+//! | keep a ledger: which part of a pool is in use, and what is free | [`first_free`], [`free_in`], [`largest_free`] |
 //! | ask about one network: first and last address, mask, members | [`IpNetwork`], [`Ipv4Network`], [`Ipv6Network`] |
-//! | split and join networks | [`subnets`], [`supernet`], [`exclude`], [`hosts`], [`aggregate`] |
+//! | split and merge networks | [`subnets`], [`supernet`], [`exclude`], [`hosts`], [`aggregate`] |
 //! | turn a range of addresses into networks, and back | [`summarize`], [`AddressSet::ranges`] |
 //! | read texts, and say what is wrong with one | [`str::parse`], [`IpNetwork::cause_of`] |
 //! | count addresses exactly | [`AddressSet::address_count`] |
@@ -51,25 +51,24 @@
 //! [`aggregate`]: IpNetwork::aggregate
 //! [`summarize`]: IpNetwork::summarize
 //!
-//! Sets and maps are of [`IpNetwork`], so of both families, unless another type is named:
-//! `AddressSet<Ipv4Network>` has IPv4 alone, and is asked for an `Ipv4Addr`. `AddressSet::new()` and
-//! `PrefixMap::new()` are for both; those of one family are made by `AddressSet::default()`,
-//! `collect()` or `from`.
+//! A set or a map of [`IpNetwork`] holds both families. `AddressSet<Ipv4Network>` holds IPv4 alone,
+//! and is asked for an `Ipv4Addr`. `AddressSet::new()` and `PrefixMap::new()` are for both families;
+//! a set or map of one family is made by `default()`, `collect()` or `from`, and names its type.
 //!
 //! # IPv4-mapped addresses
 //!
-//! `::ffff:10.1.2.3` is the form that 10.1.2.3 has on an IPv6 socket. It is an IPv6 address, and so
-//! in no IPv4 network: a deny list that has `10.0.0.0/8` does not stop it. Ask for
-//! `addr.to_canonical()`, which turns it into 10.1.2.3 and leaves every other address as it is. If a
-//! list may name networks in the mapped form too, ask [`AddressSet::contains_mapped`] or
+//! `::ffff:10.1.2.3` is the form that 10.1.2.3 takes on an IPv6 socket. It is an IPv6 address, so it
+//! is in no IPv4 network: a deny list with `10.0.0.0/8` does not stop it. Pass `addr.to_canonical()`,
+//! which turns it into 10.1.2.3 and leaves every other address as it is. If the list itself may have
+//! networks in the mapped form, use [`AddressSet::contains_mapped`] or
 //! [`PrefixMap::longest_match_mapped`], for which either form counts.
 //!
 //! # Texts
 //!
-//! A network is read from an address, and after a `/` a prefix length or, in IPv4, a mask:
-//! `10.1.2.3/8`, `10.1.2.3/255.0.0.0`, `2001:db8::/32`. An address alone is a network of that one
-//! address. Host bits are kept: `10.1.2.3/8` is printed as it was read, and has the same addresses
-//! as `10.0.0.0/8`. Octets with leading zeros, zones (`%eth0`), ports and brackets are refused.
+//! A network is written as an address, a `/`, and a prefix length or, for IPv4, a mask: `10.1.2.3/8`,
+//! `10.1.2.3/255.0.0.0`, `2001:db8::/32`. An address alone is a network of that one address. Host
+//! bits are kept: `10.1.2.3/8` is printed as it was read, and contains the same addresses as
+//! `10.0.0.0/8`. Octets with leading zeros, zones (`%eth0`), ports and brackets are refused.
 //!
 //! # Features
 //!
@@ -84,17 +83,18 @@
 //! # How far to trust it
 //!
 //! * **Made of proved sources, and tested:** the crate `fosibegan_core` reads and prints networks,
-//!   and has the sets, the maps, the indexes, blocks and aggregation. It is the Rust that is left of
-//!   a library with contracts when these are taken away. That library is proved: each of its
-//!   functions is shown, by machine, to meet its contract. What `rustc` builds of it is not.
-//! * **Written by hand, and tested:** this crate, which puts those answers in the form of `std`.
-//!   Questions about one network are answered here, so that they are `const` and need no conversion:
+//!   and has the sets, the maps, the indexes, blocks and aggregation. It is what remains of a library
+//!   with contracts once the contracts are removed. That library is proved: a machine has checked
+//!   that each function meets its contract. What `rustc` builds from it here is not proved.
+//! * **Written by hand, and tested:** this crate, which gives those answers the types and traits of
+//!   `std`. Questions about one network are answered here, so that they are `const` and need no
+//!   conversion:
 //!   `new`, `new_checked`, `with_netmask`, `ip`, `prefix`, `mask`, `network`, `broadcast`, `range`,
 //!   `contains`, `size`, `nth`, `iter`, `is_subnet_of`, `is_supernet_of`, `overlaps`, `block`, `next`,
 //!   `previous`, and the prefix lengths of masks. A test compares each with the core, at every prefix
 //!   length, at both ends of the address space, and on ten million random pairs. Sets and maps are
-//!   compared with a `BTreeSet` of addresses and with lists that are gone through.
-//! * **Trusted:** `rustc`, LLVM, `core` and `alloc`, and the script that takes the contracts away.
+//!   compared with a `BTreeSet` of addresses and with linear searches.
+//! * **Trusted:** `rustc`, LLVM, `core` and `alloc`, and the script that removes the contracts.
 //!   This crate forbids unsafe code. The core has a small module of it, for vector instructions;
 //!   `RUSTFLAGS="--cfg portable"` leaves all but one line of it out.
 //!
