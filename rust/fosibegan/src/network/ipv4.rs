@@ -165,7 +165,7 @@ impl Ipv4Network {
     /// ```
     #[inline]
     pub const fn mask(&self) -> Ipv4Addr {
-        Ipv4Addr::from_bits(!self.host_bits())
+        Ipv4Addr::from_bits(self.mask_bits())
     }
 
     /// Returns the first address of the network, in which all host bits are zeros.
@@ -235,7 +235,7 @@ impl Ipv4Network {
     /// ```
     #[inline]
     pub const fn contains(&self, addr: Ipv4Addr) -> bool {
-        (self.addr.to_bits() ^ addr.to_bits()) & !self.host_bits() == 0
+        (self.addr.to_bits() ^ addr.to_bits()) & self.mask_bits() == 0
     }
 
     /// Returns the number of addresses in the network.
@@ -253,7 +253,11 @@ impl Ipv4Network {
     /// ```
     #[inline]
     pub const fn size(self) -> u32 {
-        self.host_bits().saturating_add(1)
+        if self.prefix == 0 {
+            u32::MAX
+        } else {
+            1 << (Self::WIDTH - self.prefix)
+        }
     }
 
     /// Returns the address number `n` of the network, counted from 0, or `None` if `n` is not less
@@ -317,7 +321,7 @@ impl Ipv4Network {
     /// ```
     #[inline]
     pub const fn is_subnet_of(self, other: Self) -> bool {
-        other.prefix <= self.prefix && other.contains(self.addr)
+        (other.prefix <= self.prefix) & other.contains(self.addr)
     }
 
     /// Returns `true` if each address of `other` is also in this network. Host bits make no
@@ -355,7 +359,13 @@ impl Ipv4Network {
     /// ```
     #[inline]
     pub const fn overlaps(self, other: Self) -> bool {
-        self.contains(other.addr) || other.contains(self.addr)
+        // The network of the shorter prefix length contains the other.
+        let prefix = if self.prefix < other.prefix {
+            self.prefix
+        } else {
+            other.prefix
+        };
+        Self { prefix, ..self }.contains(other.addr)
     }
 
     /// The network of one address.
@@ -376,23 +386,24 @@ impl Ipv4Network {
         }
     }
 
-    /// The number whose ones are the host bits.
+    /// The mask, as a number.
     #[inline]
-    #[allow(clippy::cast_possible_truncation)]
-    pub(super) const fn host_bits(self) -> u32 {
-        // In 64 bits a shift by 32 needs no case of its own, and its result fits in 32.
-        (u32::MAX as u64 >> self.prefix) as u32
+    #[allow(clippy::cast_possible_truncation, clippy::cast_sign_loss)]
+    const fn mask_bits(self) -> u32 {
+        // The shift of a negative number moves ones into the low half. In 64 bits, a shift by 32
+        // needs no case of its own.
+        (-1_i64 << 32 >> self.prefix) as u32
     }
 
     /// The first address, as a number.
     #[inline]
     pub(super) const fn first(self) -> u32 {
-        self.addr.to_bits() & !self.host_bits()
+        self.addr.to_bits() & self.mask_bits()
     }
 
     /// The last address, as a number.
     #[inline]
     pub(super) const fn last(self) -> u32 {
-        self.addr.to_bits() | self.host_bits()
+        self.addr.to_bits() | !self.mask_bits()
     }
 }

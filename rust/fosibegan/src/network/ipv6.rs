@@ -2,7 +2,6 @@
 
 use super::masks::prefix_of_ipv6_mask;
 use crate::{IpNetworkError, Ipv6NetworkIterator};
-use core::cmp::Ordering;
 use core::net::Ipv6Addr;
 use core::ops::RangeInclusive;
 
@@ -33,7 +32,7 @@ use core::ops::RangeInclusive;
 /// assert_eq!(network.to_string(), "2001:db8::1/32");
 /// # Ok::<(), Box<dyn std::error::Error>>(())
 /// ```
-#[derive(Clone, Copy, PartialEq, Eq, Hash)]
+#[derive(Clone, Copy, PartialEq, Eq, Hash, PartialOrd, Ord)]
 pub struct Ipv6Network {
     addr: Ipv6Addr,
     prefix: u8,
@@ -229,7 +228,8 @@ impl Ipv6Network {
     /// ```
     #[inline]
     pub const fn contains(&self, addr: Ipv6Addr) -> bool {
-        (self.addr.to_bits() ^ addr.to_bits()) & !self.host_bits() == 0
+        // The bits in which they differ are host bits.
+        self.addr.to_bits() ^ addr.to_bits() <= self.host_bits()
     }
 
     /// Returns the number of addresses in the network.
@@ -247,7 +247,11 @@ impl Ipv6Network {
     /// ```
     #[inline]
     pub const fn size(&self) -> u128 {
-        self.host_bits().saturating_add(1)
+        if self.prefix == 0 {
+            u128::MAX
+        } else {
+            1 << (Self::WIDTH - self.prefix)
+        }
     }
 
     /// Returns the address number `n` of the network, counted from 0, or `None` if `n` is not less
@@ -309,7 +313,7 @@ impl Ipv6Network {
     /// ```
     #[inline]
     pub const fn is_subnet_of(self, other: Self) -> bool {
-        other.prefix <= self.prefix && other.contains(self.addr)
+        (other.prefix <= self.prefix) & other.contains(self.addr)
     }
 
     /// Returns `true` if each address of `other` is also in this network. Host bits make no
@@ -347,7 +351,13 @@ impl Ipv6Network {
     /// ```
     #[inline]
     pub const fn overlaps(self, other: Self) -> bool {
-        self.contains(other.addr) || other.contains(self.addr)
+        // The network of the shorter prefix length contains the other.
+        let prefix = if self.prefix < other.prefix {
+            self.prefix
+        } else {
+            other.prefix
+        };
+        Self { prefix, ..self }.contains(other.addr)
     }
 
     /// The network of one address.
@@ -389,21 +399,5 @@ impl Ipv6Network {
     #[inline]
     pub(super) const fn last(self) -> u128 {
         self.addr.to_bits() | self.host_bits()
-    }
-}
-
-impl Ord for Ipv6Network {
-    #[inline]
-    fn cmp(&self, other: &Self) -> Ordering {
-        // As numbers, since std compares the segments of addresses one by one.
-        let by_address = self.addr.to_bits().cmp(&other.addr.to_bits());
-        by_address.then(self.prefix.cmp(&other.prefix))
-    }
-}
-
-impl PartialOrd for Ipv6Network {
-    #[inline]
-    fn partial_cmp(&self, other: &Self) -> Option<Ordering> {
-        Some(self.cmp(other))
     }
 }
