@@ -33,7 +33,7 @@ impl Random {
 
 /// An iterator has these items, and says how many are left, and has none after its end.
 fn has_items<T: Clone + Debug + PartialEq>(
-    items: impl Iterator<Item = T> + Clone + Debug + FusedIterator,
+    items: impl FusedIterator<Item = T> + Clone + Debug,
     expected: &[T],
 ) {
     let mut left = items.clone();
@@ -88,7 +88,7 @@ fn has_items_from_both_ends<T: Clone + Debug + Ord>(
             (None, None, None)
         );
         assert_eq!(
-            (left.nth(0), left.nth_back(0), left.nth(5)),
+            (left.nth(1), left.nth_back(1), left.nth(5)),
             (None, None, None)
         );
     }
