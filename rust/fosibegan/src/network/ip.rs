@@ -1,4 +1,4 @@
-//! Networks of either family: how one is made, and what is asked about its addresses.
+//! Networks of either family: how one is made, and what it answers about its addresses.
 
 use super::masks::prefix_of_ip_mask;
 use crate::{IpNetworkError, IpNetworkIterator, Ipv4Network, Ipv6Network, NetworkSize};
@@ -90,6 +90,7 @@ impl IpNetwork {
     /// assert_eq!(IpNetwork::new_checked(IpAddr::V6(Ipv6Addr::LOCALHOST), 129), None);
     /// ```
     #[inline]
+    #[must_use]
     pub const fn new_checked(addr: IpAddr, prefix: u8) -> Option<Self> {
         match addr {
             IpAddr::V4(addr) => match Ipv4Network::new_checked(addr, prefix) {
@@ -142,6 +143,7 @@ impl IpNetwork {
     /// # Ok::<(), Box<dyn std::error::Error>>(())
     /// ```
     #[inline]
+    #[must_use]
     pub const fn ip(&self) -> IpAddr {
         match self {
             Self::V4(network) => IpAddr::V4(network.ip()),
@@ -162,6 +164,7 @@ impl IpNetwork {
     /// # Ok::<(), Box<dyn std::error::Error>>(())
     /// ```
     #[inline]
+    #[must_use]
     pub const fn prefix(&self) -> u8 {
         each!(self, network => network.prefix())
     }
@@ -179,6 +182,7 @@ impl IpNetwork {
     /// # Ok::<(), Box<dyn std::error::Error>>(())
     /// ```
     #[inline]
+    #[must_use]
     pub const fn mask(&self) -> IpAddr {
         match self {
             Self::V4(network) => IpAddr::V4(network.mask()),
@@ -198,6 +202,7 @@ impl IpNetwork {
     /// # Ok::<(), Box<dyn std::error::Error>>(())
     /// ```
     #[inline]
+    #[must_use]
     pub const fn network(&self) -> IpAddr {
         match self {
             Self::V4(network) => IpAddr::V4(network.network()),
@@ -217,6 +222,7 @@ impl IpNetwork {
     /// # Ok::<(), Box<dyn std::error::Error>>(())
     /// ```
     #[inline]
+    #[must_use]
     pub const fn broadcast(&self) -> IpAddr {
         match self {
             Self::V4(network) => IpAddr::V4(network.broadcast()),
@@ -236,6 +242,7 @@ impl IpNetwork {
     /// # Ok::<(), Box<dyn std::error::Error>>(())
     /// ```
     #[inline]
+    #[must_use]
     pub const fn range(self) -> RangeInclusive<IpAddr> {
         RangeInclusive::new(self.network(), self.broadcast())
     }
@@ -252,6 +259,7 @@ impl IpNetwork {
     /// # Ok::<(), Box<dyn std::error::Error>>(())
     /// ```
     #[inline]
+    #[must_use]
     pub const fn is_ipv4(&self) -> bool {
         matches!(self, Self::V4(_))
     }
@@ -268,6 +276,7 @@ impl IpNetwork {
     /// # Ok::<(), Box<dyn std::error::Error>>(())
     /// ```
     #[inline]
+    #[must_use]
     pub const fn is_ipv6(&self) -> bool {
         matches!(self, Self::V6(_))
     }
@@ -284,6 +293,7 @@ impl IpNetwork {
     /// # Ok::<(), Box<dyn std::error::Error>>(())
     /// ```
     #[inline]
+    #[must_use]
     pub const fn size(&self) -> NetworkSize {
         match self {
             Self::V4(network) => NetworkSize::V4(network.size()),
@@ -305,6 +315,7 @@ impl IpNetwork {
     /// # Ok::<(), Box<dyn std::error::Error>>(())
     /// ```
     #[inline]
+    #[must_use]
     pub const fn nth(self, n: u128) -> Option<IpAddr> {
         match self {
             Self::V4(network) => {
