@@ -52,6 +52,15 @@ impl Ipv4Network {
             None => unreachable!("a network has a prefix length of its family"),
         }
     }
+
+    /// The network that the core answers.
+    #[inline]
+    pub(crate) fn told(network: CoreV4) -> Self {
+        match Self::new_checked(told_v4(network.ip()), network.prefix()) {
+            Some(network) => network,
+            None => unreachable!("a network has a prefix length of its family"),
+        }
+    }
 }
 
 impl Ipv6Network {
@@ -59,6 +68,15 @@ impl Ipv6Network {
     #[inline]
     pub(crate) fn asked(self) -> CoreV6 {
         match CoreNetwork::new_checked(asked_v6(self.ip()), self.prefix()) {
+            Some(network) => network,
+            None => unreachable!("a network has a prefix length of its family"),
+        }
+    }
+
+    /// The network that the core answers.
+    #[inline]
+    pub(crate) fn told(network: CoreV6) -> Self {
+        match Self::new_checked(told_v6(network.ip()), network.prefix()) {
             Some(network) => network,
             None => unreachable!("a network has a prefix length of its family"),
         }

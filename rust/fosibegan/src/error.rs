@@ -1,20 +1,34 @@
+//! Why a call fails.
+
 use alloc::string::{String, ToString as _};
 use core::error::Error;
 use core::fmt;
 use core::net::AddrParseError;
 
-/// Why there is no network, no prefix length or no size.
-#[derive(Clone, Debug, PartialEq, Eq)]
+/// An error which can be returned when a network is read from text or made from parts.
+///
+/// # Examples
+///
+/// ```
+/// use fosibegan::{IpNetworkError, Ipv4Network};
+///
+/// let error = "10.0.0.0/33".parse::<Ipv4Network>().unwrap_err();
+/// assert_eq!(error, IpNetworkError::InvalidPrefix);
+/// assert_eq!(error.to_string(), "invalid prefix");
+/// ```
+#[derive(Clone, Debug, PartialEq, Eq, Hash)]
 #[non_exhaustive]
 pub enum IpNetworkError {
-    /// No address of the family stands before the `/`, and the text says so; of
-    /// [`IpNetwork`](crate::IpNetwork) it is the whole text that names no network.
+    /// There is no address before the `/`. The string says so; if an
+    /// [`IpNetwork`](crate::IpNetwork) was to be read, it is the whole text, whatever is wrong with
+    /// it.
     InvalidAddr(String),
-    /// The prefix length is none of the family, or the mask is none.
+    /// The prefix length is missing, is no number or is too great, or the mask is not some ones
+    /// followed by zeros.
     InvalidPrefix,
-    /// The text has two or more `/`; it stands after what it should have.
+    /// There is more than one `/` in the text, which the string repeats.
     InvalidCidrFormat(String),
-    /// A size that does not fit. No call of this crate returns it.
+    /// A size does not fit. No call of this crate returns this.
     NetworkSizeError(NetworkSizeError),
 }
 
@@ -46,11 +60,21 @@ impl From<AddrParseError> for IpNetworkError {
     }
 }
 
-/// Why a [`NetworkSize`](crate::NetworkSize) is no number of 32 bits.
-#[derive(Clone, Copy, Debug, PartialEq, Eq)]
+/// The error which is returned when a [`NetworkSize`](crate::NetworkSize) is converted to a number
+/// of 32 bits.
+///
+/// # Examples
+///
+/// ```
+/// use fosibegan::{NetworkSize, NetworkSizeError};
+///
+/// let error = u32::try_from(NetworkSize::V6(1)).unwrap_err();
+/// assert_eq!(error, NetworkSizeError::NetworkIsTooLarge);
+/// ```
+#[derive(Clone, Copy, Debug, PartialEq, Eq, Hash)]
 #[non_exhaustive]
 pub enum NetworkSizeError {
-    /// It is that of an IPv6 network, however small.
+    /// The size is that of an IPv6 network, however small.
     NetworkIsTooLarge,
 }
 
@@ -61,3 +85,33 @@ impl fmt::Display for NetworkSizeError {
 }
 
 impl Error for NetworkSizeError {}
+
+/// The error which is returned when an [`IpNetwork`](crate::IpNetwork) is converted to a network of
+/// the other family.
+///
+/// # Examples
+///
+/// ```
+/// use fosibegan::{IpNetwork, Ipv4Network};
+///
+/// let network: IpNetwork = "2001:db8::/32".parse()?;
+/// let error = Ipv4Network::try_from(network).unwrap_err();
+/// assert_eq!(error.to_string(), "the network is of the other address family");
+/// # Ok::<(), Box<dyn std::error::Error>>(())
+/// ```
+#[derive(Clone, Copy, Debug, PartialEq, Eq, Hash)]
+pub struct WrongFamilyError(());
+
+impl WrongFamilyError {
+    pub(crate) const fn new() -> Self {
+        Self(())
+    }
+}
+
+impl fmt::Display for WrongFamilyError {
+    fn fmt(&self, f: &mut fmt::Formatter<'_>) -> fmt::Result {
+        f.write_str("the network is of the other address family")
+    }
+}
+
+impl Error for WrongFamilyError {}

@@ -11,12 +11,12 @@ mod map;
 mod network;
 mod set;
 
-pub use error::{IpNetworkError, NetworkSizeError};
+pub use error::{IpNetworkError, NetworkSizeError, WrongFamilyError};
 pub use map::PrefixMap;
 pub use network::{
-    IpNetwork, IpNetworkIterator, Ipv4Network, Ipv4NetworkIterator, Ipv6Network,
-    Ipv6NetworkIterator, Network, NetworkSize, ip_mask_to_prefix, ipv4_mask_to_prefix,
-    ipv6_mask_to_prefix,
+    Exclude, Hosts, IpNetwork, IpNetworkIterator, Ipv4Network, Ipv4NetworkIterator, Ipv6Network,
+    Ipv6NetworkIterator, Network, NetworkSize, Subnets, Summarize, ip_mask_to_prefix,
+    ipv4_mask_to_prefix, ipv6_mask_to_prefix,
 };
 pub use set::{
     AddressCount, AddressSet, AddressSetBuilder, Addresses, Complement, Difference, FreeIn,

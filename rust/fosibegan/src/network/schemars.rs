@@ -22,7 +22,10 @@ const V6: &str = "^[0-9a-fA-F]*:[0-9a-fA-F:.]*/(12[0-8]|1[01][0-9]|[1-9]?[0-9])$
 /// The schema with the name of the type that it describes, for what makes types of schemas.
 fn named(schema: SchemaObject, name: &str) -> Schema {
     let extensions = [("x-rust-type".to_string(), name.into())];
-    Schema::Object(SchemaObject { extensions: extensions.into_iter().collect(), ..schema })
+    Schema::Object(SchemaObject {
+        extensions: extensions.into_iter().collect(),
+        ..schema
+    })
 }
 
 macro_rules! string {
@@ -36,7 +39,10 @@ macro_rules! string {
                 let pattern = Some($pattern.to_string());
                 let schema = SchemaObject {
                     instance_type: Some(InstanceType::String.into()),
-                    string: Some(Box::new(StringValidation { pattern, ..Default::default() })),
+                    string: Some(Box::new(StringValidation {
+                        pattern,
+                        ..Default::default()
+                    })),
                     ..Default::default()
                 };
                 named(schema, concat!("ipnetwork::", stringify!($name)))
@@ -50,8 +56,14 @@ string!(Ipv6Network, V6);
 
 /// One of the schemas that a network of either family may have.
 fn titled(title: &str, schema: Schema) -> Schema {
-    let metadata = Metadata { title: Some(title.to_string()), ..Default::default() };
-    let schemas = SubschemaValidation { all_of: Some(vec![schema]), ..Default::default() };
+    let metadata = Metadata {
+        title: Some(title.to_string()),
+        ..Default::default()
+    };
+    let schemas = SubschemaValidation {
+        all_of: Some(vec![schema]),
+        ..Default::default()
+    };
     Schema::Object(SchemaObject {
         metadata: Some(Box::new(metadata)),
         subschemas: Some(Box::new(schemas)),
@@ -69,8 +81,14 @@ impl JsonSchema for IpNetwork {
             titled("v4", generator.subschema_for::<Ipv4Network>()),
             titled("v6", generator.subschema_for::<Ipv6Network>()),
         ];
-        let schemas = SubschemaValidation { one_of: Some(either), ..Default::default() };
-        let schema = SchemaObject { subschemas: Some(Box::new(schemas)), ..Default::default() };
+        let schemas = SubschemaValidation {
+            one_of: Some(either),
+            ..Default::default()
+        };
+        let schema = SchemaObject {
+            subschemas: Some(Box::new(schemas)),
+            ..Default::default()
+        };
         named(schema, "ipnetwork::IpNetwork")
     }
 }

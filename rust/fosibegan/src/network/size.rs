@@ -1,15 +1,30 @@
+//! The number of addresses of a network of either family.
+
 use crate::NetworkSizeError;
 use core::cmp::Ordering;
 use core::fmt;
 use core::hash::{Hash, Hasher};
 
-/// The number of members of a network, one too small at prefix length 0. Sizes are compared and
-/// hashed by their number, whatever their family.
+/// The number of addresses in a network of either family, one less at prefix length 0.
+///
+/// Sizes are compared and hashed as numbers, whatever their family is.
+///
+/// # Examples
+///
+/// ```
+/// use fosibegan::{IpNetwork, NetworkSize};
+///
+/// let network: IpNetwork = "192.0.2.0/24".parse()?;
+/// assert_eq!(network.size(), NetworkSize::V4(256));
+/// assert_eq!(network.size(), NetworkSize::V6(256));
+/// assert_eq!(u128::from(network.size()), 256);
+/// # Ok::<(), Box<dyn std::error::Error>>(())
+/// ```
 #[derive(Clone, Copy, Debug)]
 pub enum NetworkSize {
-    /// Of an IPv4 network.
+    /// The size of an IPv4 network.
     V4(u32),
-    /// Of an IPv6 network.
+    /// The size of an IPv6 network.
     V6(u128),
 }
 
@@ -37,7 +52,8 @@ impl From<NetworkSize> for u128 {
 impl TryFrom<NetworkSize> for u32 {
     type Error = NetworkSizeError;
 
-    /// The number of an IPv4 size. Each IPv6 size is refused, also one that would fit.
+    /// The number, if this is the size of an IPv4 network. The size of an IPv6 network is refused
+    /// even if it would fit.
     fn try_from(size: NetworkSize) -> Result<u32, NetworkSizeError> {
         match size {
             NetworkSize::V4(number) => Ok(number),
@@ -73,7 +89,7 @@ impl Hash for NetworkSize {
 }
 
 impl fmt::Display for NetworkSize {
-    /// The number, without regard to width and fill.
+    /// Writes the number, without regard to width and fill.
     fn fmt(&self, f: &mut fmt::Formatter<'_>) -> fmt::Result {
         write!(f, "{}", u128::from(*self))
     }

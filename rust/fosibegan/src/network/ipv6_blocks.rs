@@ -1,0 +1,236 @@
+//! What an IPv6 network answers about other networks: those beside it, in it and around it.
+
+use super::together;
+use crate::{Exclude, Hosts, Ipv6Network, Subnets, Summarize};
+use alloc::vec::Vec;
+use core::net::Ipv6Addr;
+use core::ops::RangeInclusive;
+
+impl Ipv6Network {
+    /// Returns the network with its host bits cleared: the same addresses, under the network's
+    /// first address.
+    ///
+    /// # Examples
+    ///
+    /// ```
+    /// use fosibegan::Ipv6Network;
+    ///
+    /// let network: Ipv6Network = "2001:db8::1/32".parse()?;
+    /// assert_eq!(network.block(), "2001:db8::/32".parse()?);
+    /// # Ok::<(), Box<dyn std::error::Error>>(())
+    /// ```
+    #[inline]
+    #[must_use]
+    pub const fn block(self) -> Self {
+        self.with_ip(self.first())
+    }
+
+    /// Returns the network of this prefix length that contains this one, with its host bits
+    /// cleared, or `None` if `prefix` is longer than the network's own prefix length.
+    ///
+    /// # Examples
+    ///
+    /// ```
+    /// use fosibegan::Ipv6Network;
+    ///
+    /// let network: Ipv6Network = "2001:db8:1::1/48".parse()?;
+    /// assert_eq!(network.supernet(32), Some("2001:db8::/32".parse()?));
+    /// assert_eq!(network.supernet(48), Some("2001:db8:1::/48".parse()?));
+    /// assert_eq!(network.supernet(49), None);
+    /// # Ok::<(), Box<dyn std::error::Error>>(())
+    /// ```
+    #[inline]
+    #[must_use]
+    pub const fn supernet(self, prefix: u8) -> Option<Self> {
+        if prefix > self.prefix() {
+            return None;
+        }
+        match Self::new_checked(self.ip(), prefix) {
+            Some(network) => Some(network.block()),
+            None => None,
+        }
+    }
+
+    /// Returns an iterator over the networks of this prefix length that are in this one, in
+    /// ascending order, or `None` if `prefix` is shorter than the network's own prefix length or
+    /// greater than 128.
+    ///
+    /// The host bits of this network make no difference, and those of the subnets are cleared.
+    ///
+    /// # Examples
+    ///
+    /// ```
+    /// use fosibegan::Ipv6Network;
+    ///
+    /// let network: Ipv6Network = "2001:db8::/32".parse()?;
+    /// let subnets = network.subnets(48).ok_or("not a longer prefix length")?;
+    /// assert_eq!(subnets.clone().count(), 65_536);
+    /// assert_eq!(subnets.last(), Some("2001:db8:ffff::/48".parse()?));
+    /// assert!(network.subnets(31).is_none());
+    /// # Ok::<(), Box<dyn std::error::Error>>(())
+    /// ```
+    #[must_use]
+    pub fn subnets(self, prefix: u8) -> Option<Subnets<Self>> {
+        Subnets::new(self, prefix)
+    }
+
+    /// Returns the network of the same prefix length that begins right after the last address of
+    /// this one, or `None` if there is no address after it.
+    ///
+    /// The host bits of the answer are cleared.
+    ///
+    /// # Examples
+    ///
+    /// ```
+    /// use fosibegan::Ipv6Network;
+    ///
+    /// let network: Ipv6Network = "2001:db8::1/32".parse()?;
+    /// assert_eq!(network.next(), Some("2001:db9::/32".parse()?));
+    /// let last: Ipv6Network = "ff00::/8".parse()?;
+    /// assert_eq!(last.next(), None);
+    /// # Ok::<(), Box<dyn std::error::Error>>(())
+    /// ```
+    #[inline]
+    #[must_use]
+    pub const fn next(self) -> Option<Self> {
+        match self.last().checked_add(1) {
+            Some(first) => Some(self.with_ip(first)),
+            None => None,
+        }
+    }
+
+    /// Returns the network of the same prefix length that ends right before the first address of
+    /// this one, or `None` if there is no address before it.
+    ///
+    /// The host bits of the answer are cleared.
+    ///
+    /// # Examples
+    ///
+    /// ```
+    /// use fosibegan::Ipv6Network;
+    ///
+    /// let network: Ipv6Network = "2001:db8::1/32".parse()?;
+    /// assert_eq!(network.previous(), Some("2001:db7::/32".parse()?));
+    /// let first: Ipv6Network = "::/8".parse()?;
+    /// assert_eq!(first.previous(), None);
+    /// # Ok::<(), Box<dyn std::error::Error>>(())
+    /// ```
+    #[inline]
+    #[must_use]
+    pub const fn previous(self) -> Option<Self> {
+        match self.first().checked_sub(1) {
+            Some(last) => Some(self.with_ip(last).block()),
+            None => None,
+        }
+    }
+
+    /// Returns an iterator over the addresses that hosts of this network can have, in ascending
+    /// order.
+    ///
+    /// Up to prefix length 126 these are all addresses but the first, which is the anycast address
+    /// of the network's routers; IPv6 has no broadcast address. A network of prefix length 127 has
+    /// two hosts, and one of prefix length 128 has one.
+    ///
+    /// # Examples
+    ///
+    /// ```
+    /// use fosibegan::Ipv6Network;
+    ///
+    /// let network: Ipv6Network = "2001:db8::/112".parse()?;
+    /// let mut hosts = network.hosts();
+    /// assert_eq!(hosts.next(), Some("2001:db8::1".parse()?));
+    /// assert_eq!(hosts.last(), Some("2001:db8::ffff".parse()?));
+    /// # Ok::<(), Box<dyn std::error::Error>>(())
+    /// ```
+    pub fn hosts(self) -> Hosts<Self> {
+        Hosts::new(self)
+    }
+
+    /// Returns an iterator over the fewest networks that contain exactly the addresses of this
+    /// network that are not in `other`, in ascending order.
+    ///
+    /// If the two have no address in common, that is this network with its host bits cleared. If
+    /// `other` contains this network, nothing is left. Otherwise it is one network of each prefix
+    /// length that is longer than this network's and not longer than that of `other`.
+    ///
+    /// # Examples
+    ///
+    /// ```
+    /// use fosibegan::Ipv6Network;
+    ///
+    /// let network: Ipv6Network = "2001:db8::/32".parse()?;
+    /// let left: Vec<String> =
+    ///     network.exclude("2001:db8:4000::/34".parse()?).map(|each| each.to_string()).collect();
+    /// assert_eq!(left, ["2001:db8::/34", "2001:db8:8000::/33"]);
+    /// # Ok::<(), Box<dyn std::error::Error>>(())
+    /// ```
+    pub fn exclude(self, other: Self) -> Exclude<Self> {
+        Exclude::new(self, other)
+    }
+
+    /// Returns an iterator over the fewest networks that contain exactly the addresses of a range,
+    /// in ascending order.
+    ///
+    /// There are at most 254 of them, and none if the range is empty. So a range whose ends are in
+    /// the wrong order gives no networks.
+    ///
+    /// # Examples
+    ///
+    /// ```
+    /// use fosibegan::Ipv6Network;
+    ///
+    /// let range = "2001:db8::1".parse()?..="2001:db8::4".parse()?;
+    /// let networks: Vec<String> =
+    ///     Ipv6Network::summarize(range).map(|each| each.to_string()).collect();
+    /// assert_eq!(networks, ["2001:db8::1/128", "2001:db8::2/127", "2001:db8::4/128"]);
+    /// # Ok::<(), Box<dyn std::error::Error>>(())
+    /// ```
+    pub fn summarize(range: RangeInclusive<Ipv6Addr>) -> Summarize<Self> {
+        Summarize::of_v6(&range)
+    }
+
+    /// Returns the fewest networks that contain exactly the addresses of all these networks, in
+    /// ascending order and with their host bits cleared.
+    ///
+    /// Networks that lie in others are left out, and neighbours that fill a larger network are
+    /// joined. Takes time *O*(*n* log *n*).
+    ///
+    /// # Examples
+    ///
+    /// ```
+    /// use fosibegan::Ipv6Network;
+    ///
+    /// let networks: Vec<Ipv6Network> =
+    ///     vec!["2001:db8:8000::/33".parse()?, "2001:db8::1/48".parse()?, "2001:db8::/33".parse()?];
+    /// assert_eq!(Ipv6Network::aggregate(networks), ["2001:db8::/32".parse()?]);
+    /// # Ok::<(), Box<dyn std::error::Error>>(())
+    /// ```
+    #[must_use]
+    pub fn aggregate(networks: impl IntoIterator<Item = Self>) -> Vec<Self> {
+        let networks = networks.into_iter().map(Self::asked).collect();
+        together::aggregate(networks)
+            .into_iter()
+            .map(Self::told)
+            .collect()
+    }
+
+    /// Returns the smallest network that contains all these networks, or `None` if there are none.
+    ///
+    /// It may contain many other addresses: the smallest network around `::1/128` and `ff00::/8` is
+    /// `::/0`.
+    ///
+    /// # Examples
+    ///
+    /// ```
+    /// use fosibegan::Ipv6Network;
+    ///
+    /// let networks: [Ipv6Network; 2] = ["2001:db8:1::/48".parse()?, "2001:db8:2::1/64".parse()?];
+    /// assert_eq!(Ipv6Network::spanning(networks), Some("2001:db8::/46".parse()?));
+    /// assert_eq!(Ipv6Network::spanning([]), None);
+    /// # Ok::<(), Box<dyn std::error::Error>>(())
+    /// ```
+    #[must_use]
+    pub fn spanning(networks: impl IntoIterator<Item = Self>) -> Option<Self> {
+        together::spanning(networks.into_iter().map(Self::asked)).map(Self::told)
+    }
+}
