@@ -7,7 +7,7 @@ use crate::{AddressSet, IpNetwork, Ipv4Network, Ipv6Network, Network};
 use core::fmt;
 use core::iter::FusedIterator;
 use core::marker::PhantomData;
-use fosibegan_core::Difference;
+use fosibegan_core::{AddressSet as CoreSet, AddressSlice, AddressSpace, Difference};
 
 /// An iterator over the networks of the addresses within a network that a set does not have: what
 /// [`AddressSet::free_in`] returns.
@@ -30,8 +30,8 @@ pub struct FreeIn<'a, N: Network = IpNetwork> {
 
 impl<N: Network> AddressSet<N> {
     /// The networks of the addresses of `within` that are not in the set, in ascending order: the
-    /// fewest that have these addresses. Goes over the networks of the set once, as the iterator
-    /// advances.
+    /// fewest that have these addresses. Takes a binary search, and goes over the networks of the
+    /// set that lie within `within`.
     ///
     /// ```
     /// use fosibegan::{AddressSet, IpNetwork};
@@ -43,8 +43,8 @@ impl<N: Network> AddressSet<N> {
     /// ```
     pub fn free_in(&self, within: N) -> FreeIn<'_, N> {
         let (v4, v6) = match within.either() {
-            IpNetwork::V4(network) => (Some(self.v4.free_in(network.asked())), None),
-            IpNetwork::V6(network) => (None, Some(self.v6.free_in(network.asked()))),
+            IpNetwork::V4(network) => (Some(free_in(&self.v4, network.asked())), None),
+            IpNetwork::V6(network) => (None, Some(free_in(&self.v6, network.asked()))),
         };
         FreeIn {
             networks: InOrder::new(v4, v6, most_after_cuts(1, self)),
@@ -56,8 +56,8 @@ impl<N: Network> AddressSet<N> {
     /// may be given away next. `None` if there is none, if `prefix` is shorter than that of
     /// `within`, or if it is too long for the family.
     ///
-    /// The set does not change: [`insert`](Self::insert) the network if you take it. Goes over the
-    /// networks of the set up to the answer.
+    /// The set does not change: [`insert`](Self::insert) the network if you take it. Takes a binary
+    /// search, and goes over the networks of the set that lie within `within`.
     ///
     /// ```
     /// use fosibegan::{AddressSet, IpNetwork};
@@ -71,21 +71,16 @@ impl<N: Network> AddressSet<N> {
     /// ```
     #[must_use]
     pub fn first_free(&self, within: N, prefix: u8) -> Option<N> {
-        match within.either() {
-            IpNetwork::V4(network) => {
-                let free = self.v4.first_free(network.asked(), prefix)?;
-                Some(N::of_v4(Ipv4Network::told(free)))
-            }
-            IpNetwork::V6(network) => {
-                let free = self.v6.first_free(network.asked(), prefix)?;
-                Some(N::of_v6(Ipv6Network::told(free)))
-            }
+        let is_large = |free: &N| (*free).into().prefix() <= prefix;
+        match self.free_in(within).find(is_large)?.into() {
+            IpNetwork::V4(free) => Ipv4Network::new_checked(free.ip(), prefix).map(N::of_v4),
+            IpNetwork::V6(free) => Ipv6Network::new_checked(free.ip(), prefix).map(N::of_v6),
         }
     }
 
     /// The largest network within `within` that has no address of the set; of several as large, the
-    /// first. `None` if every address of `within` is in the set. Goes over the networks of the set
-    /// once.
+    /// first. `None` if every address of `within` is in the set. Takes a binary search, and goes over
+    /// the networks of the set that lie within `within`.
     ///
     /// ```
     /// use fosibegan::{AddressSet, IpNetwork};
@@ -103,3 +98,18 @@ impl<N: Network> AddressSet<N> {
 }
 
 lazy!(FreeIn);
+
+/// The blocks of the addresses of a network that are not in the set. Of a large set only the part
+/// is looked at that the network is in: the core checks that it is a set, which takes a step for
+/// each of its blocks, but fewer than to go over the others.
+fn free_in<C: AddressSpace>(set: &CoreSet<C>, within: C) -> Difference<'_, C> {
+    let blocks = set.blocks();
+    let from = blocks.partition_point(|block| block.broadcast() < within.network());
+    let to = blocks.partition_point(|block| block.ip() <= within.broadcast());
+    if to - from < blocks.len() / 2 {
+        if let Some(part) = AddressSlice::from_blocks(&blocks[from..to]) {
+            return part.free_in(within);
+        }
+    }
+    set.free_in(within)
+}

@@ -141,6 +141,11 @@ macro_rules! networks {
                 (len, Some(len))
             }
 
+            fn fold<B, F: FnMut(B, N) -> B>(self, init: B, mut f: F) -> B {
+                let init = self.v4.fold(init, |all, network| f(all, of_v4(network)));
+                self.v6.fold(init, |all, network| f(all, of_v6(network)))
+            }
+
             fn count(self) -> usize {
                 self.len()
             }

@@ -22,6 +22,13 @@ fn set_of<C: AddressSpace>(blocks: impl SetBlocks<C>) -> CoreSet<C> {
     or_abort(collected(blocks, CoreVec::new(Global)))
 }
 
+fn exclusive_or<C: AddressSpace>(set: &CoreSet<C>, other: &CoreSet<C>) -> CoreSet<C> {
+    union(
+        &set_of(set.difference(other)),
+        &set_of(other.difference(set)),
+    )
+}
+
 fn add<C: AddressSpace>(set: &mut CoreSet<C>, other: &CoreSet<C>) {
     if other.blocks().len() > FEW {
         *set = union(set, other);
@@ -112,7 +119,8 @@ impl<N: Network> BitXor for &AddressSet<N> {
     /// # Ok::<(), Box<dyn std::error::Error>>(())
     /// ```
     fn bitxor(self, other: Self) -> AddressSet<N> {
-        self.symmetric_difference(other).collect()
+        let v4 = exclusive_or(&self.v4, &other.v4);
+        AddressSet::of_parts(v4, exclusive_or(&self.v6, &other.v6))
     }
 }
 
@@ -130,7 +138,17 @@ impl<N: Network> Not for &AddressSet<N> {
     /// # Ok::<(), Box<dyn std::error::Error>>(())
     /// ```
     fn not(self) -> AddressSet<N> {
-        self.complement().collect()
+        let v4 = if N::HAS_V4 {
+            set_of(self.v4.complement())
+        } else {
+            self.v4.clone()
+        };
+        let v6 = if N::HAS_V6 {
+            set_of(self.v6.complement())
+        } else {
+            self.v6.clone()
+        };
+        AddressSet::of_parts(v4, v6)
     }
 }
 

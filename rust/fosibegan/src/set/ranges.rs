@@ -54,27 +54,30 @@ impl<N: Network> AddressSet<N> {
     }
 }
 
-/// The runs of networks that follow each other without a gap, as their first and last addresses.
+/// The runs of a set's networks that follow each other without a gap, as their first and last
+/// addresses.
 #[derive(Clone)]
 pub(super) struct Runs<'a, C> {
     rest: &'a [C],
 }
 
 impl<'a, C: AddressSpace> Runs<'a, C> {
-    /// Those of the networks of a set.
     pub(super) fn of(blocks: &'a [C]) -> Self {
         Runs { rest: blocks }
     }
 
     fn next_back(&mut self) -> Option<Ends<C>> {
-        let last = self.rest.last()?.broadcast();
-        let gap = self
-            .rest
-            .windows(2)
-            .rposition(|pair| !touch(pair[0], pair[1]));
-        let (rest, run) = self.rest.split_at(gap.map_or(0, |before| before + 1));
-        self.rest = rest;
-        Some((run[0].network(), last))
+        let (block, before) = self.rest.split_last()?;
+        let (mut first, last) = (block.ip(), block.broadcast());
+        self.rest = before;
+        while let Some((block, before)) = self.rest.split_last() {
+            if !touch::<C>(block.broadcast(), first) {
+                break;
+            }
+            first = block.ip();
+            self.rest = before;
+        }
+        Some((first, last))
     }
 
     /// The least and the greatest number of runs that there may be.
@@ -87,22 +90,23 @@ impl<C: AddressSpace> Iterator for Runs<'_, C> {
     type Item = Ends<C>;
 
     fn next(&mut self) -> Option<Ends<C>> {
-        let first = self.rest.first()?.network();
-        let gap = self
-            .rest
-            .windows(2)
-            .position(|pair| !touch(pair[0], pair[1]));
-        let (run, rest) = self
-            .rest
-            .split_at(gap.map_or(self.rest.len(), |before| before + 1));
-        self.rest = rest;
-        Some((first, run[run.len() - 1].broadcast()))
+        let (block, behind) = self.rest.split_first()?;
+        let (first, mut last) = (block.ip(), block.broadcast());
+        self.rest = behind;
+        while let Some((block, behind)) = self.rest.split_first() {
+            if !touch::<C>(last, block.ip()) {
+                break;
+            }
+            last = block.broadcast();
+            self.rest = behind;
+        }
+        Some((first, last))
     }
 }
 
-/// Whether the second network begins right behind the first.
-fn touch<C: AddressSpace>(first: C, second: C) -> bool {
-    C::next_address(first.broadcast()) == Some(second.network())
+/// Whether the second address follows the first.
+fn touch<C: AddressSpace>(last: C::Addr, first: C::Addr) -> bool {
+    C::next_address(last) == Some(first)
 }
 
 type Ends<C> = (<C as CidrNetwork>::Addr, <C as CidrNetwork>::Addr);

@@ -186,7 +186,7 @@ fn nth_takes_constant_time() {
         let mut networks = set.networks();
         assert_eq!(
             networks.nth(n * 41),
-            Ipv4Network::new((n as u32 * 41 << 10).into(), 32).ok()
+            Ipv4Network::new(((n as u32 * 41) << 10).into(), 32).ok()
         );
         assert_eq!(networks.nth_back(n).is_some(), n * 42 < (1 << 22) - 1);
     }

@@ -2,6 +2,7 @@
 
 use crate::space::Random;
 use fosibegan::{AddressCount, AddressSet, AddressSetBuilder, IpNetwork, Ipv4Network, Ipv6Network};
+use std::cmp::Ordering;
 use std::net::{IpAddr, Ipv4Addr, Ipv6Addr};
 use std::ops::RangeInclusive;
 use std::panic::catch_unwind;
@@ -173,13 +174,21 @@ fn counts_are_exact() {
         assert_eq!(u64::try_from(count).ok(), number.parse::<u64>().ok());
         assert_eq!(u32::try_from(count).ok(), number.parse::<u32>().ok());
         assert_eq!(usize::try_from(count).ok(), number.parse::<usize>().ok());
-        if let Ok(number) = number.parse::<u128>() {
-            assert!(count == number && number == count && count == AddressCount::from(number));
-            assert!(count <= number && number <= count && !(count < number) && !(number < count));
-        } else {
-            assert!(
-                count > u128::MAX && u128::MAX < count && count != u128::MAX && u128::MAX != count
+        for other in [0, 1, 1 << 32, (1 << 32) - 1, 1 << 127, u128::MAX] {
+            let order = number
+                .parse::<u128>()
+                .map_or(Ordering::Greater, |number| number.cmp(&other));
+            assert_eq!(count.partial_cmp(&other), Some(order), "{count} {other}");
+            assert_eq!(
+                other.partial_cmp(&count),
+                Some(order.reverse()),
+                "{count} {other}"
             );
+            assert_eq!(
+                (count == other, other == count),
+                (order.is_eq(), order.is_eq())
+            );
+            assert_eq!(count.cmp(&AddressCount::from(other)), order);
         }
         counts.push(count);
     }
