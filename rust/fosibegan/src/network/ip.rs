@@ -35,16 +35,6 @@ pub enum IpNetwork {
     V6(Ipv6Network),
 }
 
-/// Evaluates an expression for the network of a family.
-macro_rules! each {
-    ($either:expr, $network:ident => $answer:expr) => {
-        match $either {
-            IpNetwork::V4($network) => $answer,
-            IpNetwork::V6($network) => $answer,
-        }
-    };
-}
-
 impl IpNetwork {
     /// Creates a network from an address, whose host bits are kept, and a prefix length.
     ///
@@ -166,7 +156,10 @@ impl IpNetwork {
     #[inline]
     #[must_use]
     pub const fn prefix(&self) -> u8 {
-        each!(self, network => network.prefix())
+        match self {
+            Self::V4(network) => network.prefix(),
+            Self::V6(network) => network.prefix(),
+        }
     }
 
     /// Returns the mask in the network's family: as many ones as the prefix length says, followed
