@@ -562,6 +562,9 @@ fn networks_of_the_largest_ranges() {
         128
     );
     has_items(Ipv4Network::summarize(v4_range(u32::MAX, 0)), &[]);
+    let mut used_up = v4_range(7, 8);
+    assert_eq!(used_up.by_ref().count(), 2);
+    has_items(Ipv4Network::summarize(used_up), &[]);
     has_items(Ipv6Network::summarize(v6_range(1, 0)), &[]);
     let either = |first: &str, last: &str| {
         IpNetwork::summarize(first.parse().unwrap()..=last.parse().unwrap())

@@ -13,7 +13,8 @@ use core::ops::RangeInclusive;
 /// [`contains_mapped`](Self::contains_mapped).
 ///
 /// It is read from the same texts as [`Ipv4Network`] and [`Ipv6Network`], and printed like them.
-/// Networks are ordered by family, IPv4 first, then by address, then by prefix length.
+/// [`cause_of`](Self::cause_of) tells why a text is refused. Networks are ordered by family, IPv4
+/// first, then by address, then by prefix length.
 ///
 /// # Examples
 ///
@@ -33,16 +34,6 @@ pub enum IpNetwork {
     V4(Ipv4Network),
     /// An IPv6 network.
     V6(Ipv6Network),
-}
-
-/// Evaluates an expression for the network of a family.
-macro_rules! each {
-    ($either:expr, $network:ident => $answer:expr) => {
-        match $either {
-            IpNetwork::V4($network) => $answer,
-            IpNetwork::V6($network) => $answer,
-        }
-    };
 }
 
 impl IpNetwork {
@@ -166,7 +157,10 @@ impl IpNetwork {
     #[inline]
     #[must_use]
     pub const fn prefix(&self) -> u8 {
-        each!(self, network => network.prefix())
+        match self {
+            Self::V4(network) => network.prefix(),
+            Self::V6(network) => network.prefix(),
+        }
     }
 
     /// Returns the mask in the network's family: as many ones as the prefix length says, followed

@@ -1,6 +1,4 @@
-//! With the feature `serde`: a network is its text in formats that people read, such as JSON. In
-//! others it is bytes: those of its address, the most significant first, then its prefix length.
-//! They are 5 bytes for IPv4 and 17 for IPv6, by which [`IpNetwork`] tells the families apart.
+//! With the feature `serde`: networks as texts and as bytes.
 
 use crate::{IpNetwork, Ipv4Network, Ipv6Network};
 use core::fmt;
@@ -12,7 +10,7 @@ use serde::ser::{Serialize, Serializer};
 /// A network that is read from bytes.
 trait OfBytes: Sized {
     /// What the bytes should be.
-    const EXPECTED: &str;
+    const EXPECTED: &'static str;
 
     /// The network of these bytes, unless they are too few or too many, or the prefix length is too
     /// great.
@@ -20,7 +18,8 @@ trait OfBytes: Sized {
 }
 
 impl OfBytes for Ipv4Network {
-    const EXPECTED: &str = "the 4 bytes of an IPv4 address and a prefix length of at most 32";
+    const EXPECTED: &'static str =
+        "the 4 bytes of an IPv4 address and a prefix length of at most 32";
 
     fn of_bytes(bytes: &[u8]) -> Option<Self> {
         let [octets @ .., prefix]: [u8; 5] = bytes.try_into().ok()?;
@@ -29,7 +28,8 @@ impl OfBytes for Ipv4Network {
 }
 
 impl OfBytes for Ipv6Network {
-    const EXPECTED: &str = "the 16 bytes of an IPv6 address and a prefix length of at most 128";
+    const EXPECTED: &'static str =
+        "the 16 bytes of an IPv6 address and a prefix length of at most 128";
 
     fn of_bytes(bytes: &[u8]) -> Option<Self> {
         let [octets @ .., prefix]: [u8; 17] = bytes.try_into().ok()?;
@@ -38,7 +38,8 @@ impl OfBytes for Ipv6Network {
 }
 
 impl OfBytes for IpNetwork {
-    const EXPECTED: &str = "the 4 or 16 bytes of an IP address and a prefix length of its family";
+    const EXPECTED: &'static str =
+        "the 4 or 16 bytes of an IP address and a prefix length of its family";
 
     fn of_bytes(bytes: &[u8]) -> Option<Self> {
         let v4 = Ipv4Network::of_bytes(bytes).map(Self::V4);
@@ -98,6 +99,10 @@ impl<'de, N: OfBytes> Visitor<'de> for Bytes<N> {
 
 macro_rules! network {
     ($($name:ident)*) => {$(
+        /// A network is read from what `Serialize` writes: from each text that [`parse`](str::parse)
+        /// reads, or from bytes.
+        ///
+        /// Bytes are refused if their number or the prefix length is none of this type.
         impl<'de> Deserialize<'de> for $name {
             fn deserialize<D: Deserializer<'de>>(deserializer: D) -> Result<Self, D::Error> {
                 if deserializer.is_human_readable() {
@@ -112,6 +117,8 @@ macro_rules! network {
 
 network!(Ipv4Network Ipv6Network IpNetwork);
 
+/// A network is text in formats that people read, such as JSON, and 5 bytes in others: those of the
+/// address, the most significant first, and the prefix length.
 impl Serialize for Ipv4Network {
     fn serialize<S: Serializer>(&self, serializer: S) -> Result<S::Ok, S::Error> {
         if serializer.is_human_readable() {
@@ -122,6 +129,8 @@ impl Serialize for Ipv4Network {
     }
 }
 
+/// A network is text in formats that people read, such as JSON, and 17 bytes in others: those of
+/// the address, the most significant first, and the prefix length.
 impl Serialize for Ipv6Network {
     fn serialize<S: Serializer>(&self, serializer: S) -> Result<S::Ok, S::Error> {
         if serializer.is_human_readable() {
@@ -133,6 +142,9 @@ impl Serialize for Ipv6Network {
     }
 }
 
+/// A network is text in formats that people read, such as JSON, and bytes in others: those of its
+/// address, the most significant first, and its prefix length. These are 5 for IPv4 and 17 for IPv6,
+/// so that either family is read back.
 impl Serialize for IpNetwork {
     fn serialize<S: Serializer>(&self, serializer: S) -> Result<S::Ok, S::Error> {
         match self {
