@@ -18,7 +18,12 @@ pub use network::{
     Ipv6NetworkIterator, Network, NetworkSize, Subnets, Summarize, ip_mask_to_prefix,
     ipv4_mask_to_prefix, ipv6_mask_to_prefix,
 };
-pub use set::{
-    AddressCount, AddressSet, AddressSetBuilder, Addresses, Complement, Difference, FreeIn,
-    FrozenSet, Intersection, IntoNetworks, Networks, Ranges, SymmetricDifference, Union,
-};
+pub use set::{AddressCount, AddressSet, AddressSetBuilder, Addresses, FrozenSet};
+
+/// The iterators of [`AddressSet`].
+pub mod address_set {
+    pub use crate::set::{
+        Complement, Difference, FreeIn, Intersection, IntoNetworks, Networks, Ranges,
+        SymmetricDifference, Union,
+    };
+}
