@@ -18,7 +18,7 @@ use fosibegan_core::plain_std::vec::Vec as CoreVec;
 /// let texts = ["10.0.0.0/8", "192.0.2.7", "2001:db8::/32"];
 /// let allowed = texts.iter().map(|text| text.parse::<IpNetwork>()).collect::<Result<AddressSet, _>>()?;
 ///
-/// // A socket that serves both families shows the IPv4 client 10.1.2.3 as ::ffff:10.1.2.3.
+/// // A socket that listens for both families reports 10.1.2.3 as ::ffff:10.1.2.3.
 /// let client: IpAddr = "::ffff:10.1.2.3".parse()?;
 /// assert!(allowed.contains(client.to_canonical()));
 /// assert!(!allowed.contains("192.0.2.8".parse()?));
@@ -28,35 +28,39 @@ use fosibegan_core::plain_std::vec::Vec as CoreVec;
 /// # What it holds
 ///
 /// A set is made of networks, single addresses and ranges of addresses (see
-/// [`Addresses`](crate::Addresses)), in any order, which may overlap; the host bits of a network
-/// mean nothing. It keeps them as the fewest networks that have exactly these addresses, in order.
+/// [`Addresses`](crate::Addresses)), in any order; they may overlap, and host bits make no
+/// difference. The set keeps the fewest networks that contain exactly these addresses, in order.
 /// Two sets are equal if they have the same addresses.
 ///
-/// `AddressSet` without a parameter is `AddressSet<IpNetwork>` and holds addresses of both
-/// families, IPv4 before IPv6. `AddressSet<Ipv4Network>` and `AddressSet<Ipv6Network>` hold those
-/// of one family.
+/// `AddressSet` without a parameter is `AddressSet<IpNetwork>`, and holds addresses of both
+/// families, IPv4 before IPv6. `AddressSet<Ipv4Network>` and `AddressSet<Ipv6Network>` hold one
+/// family; they are made by `AddressSet::<Ipv4Network>::default()`, `collect()` or `from`. A set
+/// that is made of IPv4 networks has to name its type, because they may go into a set of both
+/// families too.
 ///
 /// # Empty sets, allow lists and deny lists
 ///
 /// **An empty set contains no address.** An allow list that turns out empty, because its file was,
 /// lets nobody in. A deny list that turns out empty lets *everybody* in, and the complement of an
-/// empty set, `!&set`, is the whole address space. If an empty list must be a mistake, refuse it
-/// where it is read: see [`is_empty`](Self::is_empty).
+/// empty set, `!&set`, is the whole address space. If an empty list can only be a mistake, refuse
+/// it where it is read: see [`is_empty`](Self::is_empty).
 ///
 /// # IPv4-mapped addresses
 ///
 /// `::ffff:10.1.2.3` is an IPv6 address, and not in `10.0.0.0/8`. Where such addresses turn up, ask
-/// `contains(addr.to_canonical())`, as above, or, if the set itself may have networks such as
-/// `::ffff:10.0.0.0/104`, [`contains_mapped`](AddressSet::contains_mapped). For a deny list that is
-/// not optional: an address that is asked about in the form that the list does not have passes.
+/// `contains(addr.to_canonical())`, as above; or, if the set itself may have networks such as
+/// `::ffff:10.0.0.0/104`, ask [`contains_mapped`](AddressSet::contains_mapped). For a deny list
+/// this is essential: otherwise an address passes if it comes in the form that the list does not
+/// have.
 ///
 /// # Cost
 ///
-/// [`contains`](Self::contains) is a binary search, over 31 ns for 10,000 networks;
-/// [`freeze`](Self::freeze) makes a [`FrozenSet`] that answers in a quarter of that. Operations on
-/// two sets go over both lists once. [`insert`](Self::insert) and [`remove`](Self::remove) move the
-/// networks behind the place that changes; to put together a large set, collect it, `extend` it or
-/// use an [`AddressSetBuilder`].
+/// [`contains`](Self::contains) is a binary search: in a set of 10,000 networks it takes about 31
+/// ns, and 160 if these are IPv6. A [`FrozenSet`](crate::FrozenSet), made by
+/// [`freeze`](Self::freeze), answers in 8 and 16. Operations on two sets go over both lists once.
+/// [`insert`](Self::insert) and [`remove`](Self::remove) move the networks behind the place that
+/// changes; to build a large set, collect it, `extend` it, or use an [`AddressSetBuilder`], and to
+/// remove many networks, subtract a set of them.
 pub struct AddressSet<N: Network = IpNetwork> {
     pub(super) v4: CoreSet<CoreV4>,
     pub(super) v6: CoreSet<CoreV6>,
@@ -64,10 +68,12 @@ pub struct AddressSet<N: Network = IpNetwork> {
 }
 
 impl AddressSet {
-    /// An empty set for addresses of both families. It does not allocate.
+    /// Creates an empty set for addresses of both families. It does not allocate.
     ///
     /// A set of one family is made by `default`, as in `AddressSet::<Ipv4Network>::default()`, so
     /// that `AddressSet::new()` needs no type.
+    ///
+    /// # Examples
     ///
     /// ```
     /// use fosibegan::{AddressSet, Ipv4Network};
@@ -94,7 +100,9 @@ impl<N: Network> AddressSet<N> {
         }
     }
 
-    /// A builder for a set that is put together piece by piece.
+    /// Returns a builder for a set that is put together piece by piece.
+    ///
+    /// # Examples
     ///
     /// ```
     /// use fosibegan::{AddressSet, Ipv4Network};
@@ -112,20 +120,26 @@ impl<N: Network> AddressSet<N> {
         AddressSetBuilder::default()
     }
 
-    /// Adds the addresses of a network. Returns whether any of them was not in the set before.
+    /// Adds the addresses of a network. Returns `true` if any of them was not in the set before.
     ///
-    /// Takes a binary search, and moves the networks behind the one that is added. To add many,
-    /// that is too much: 400,000 networks in random order take 17 seconds one by one, and 0.1 by
-    /// [`extend`](Extend::extend) or an [`AddressSetBuilder`].
+    /// Takes a binary search, and moves the networks behind the one that is added. That is slow for
+    /// a great many networks: 400,000 in random order take more than ten seconds one by one, and a
+    /// tenth of a second by [`extend`](Extend::extend) or an [`AddressSetBuilder`].
+    ///
+    /// # Examples
     ///
     /// ```
     /// use fosibegan::AddressSet;
+    /// use std::net::IpAddr;
     ///
     /// let mut set = AddressSet::new();
     /// assert!(set.insert("192.0.2.0/25".parse()?));
     /// assert!(set.insert("192.0.2.128/25".parse()?));
-    /// assert!(!set.insert("192.0.2.64/26".parse()?));
     /// assert!(set.networks().eq(["192.0.2.0/24".parse()?]));
+    ///
+    /// // A single address is a network too.
+    /// let addr: IpAddr = "192.0.2.7".parse()?;
+    /// assert!(!set.insert(addr.into()));
     /// # Ok::<(), Box<dyn std::error::Error>>(())
     /// ```
     pub fn insert(&mut self, network: N) -> bool {
@@ -135,12 +149,14 @@ impl<N: Network> AddressSet<N> {
         }
     }
 
-    /// Adds the addresses of a range, both ends included. Returns whether any of them was not in
+    /// Adds the addresses of a range, both ends included. Returns `true` if any of them was not in
     /// the set before. A range that ends before it begins has no addresses.
     ///
     /// # Panics
     ///
     /// Panics if the range begins in one address family and ends in the other.
+    ///
+    /// # Examples
     ///
     /// ```
     /// use fosibegan::AddressSet;
@@ -163,11 +179,13 @@ impl<N: Network> AddressSet<N> {
         is_new
     }
 
-    /// Removes the addresses of a network. Returns whether any of them was in the set.
+    /// Removes the addresses of a network. Returns `true` if any of them was in the set.
     ///
     /// What is left of a network of the set is split into the fewest networks. Takes a binary
     /// search, and moves the networks behind the one that is removed. To remove many networks, make
     /// a set of them and subtract it: `set -= &others`.
+    ///
+    /// # Examples
     ///
     /// ```
     /// use fosibegan::{AddressSet, IpNetwork};
@@ -185,12 +203,14 @@ impl<N: Network> AddressSet<N> {
         }
     }
 
-    /// Removes the addresses of a range, both ends included. Returns whether any of them was in the
-    /// set. A range that ends before it begins has no addresses.
+    /// Removes the addresses of a range, both ends included. Returns `true` if any of them was in
+    /// the set. A range that ends before it begins has no addresses.
     ///
     /// # Panics
     ///
     /// Panics if the range begins in one address family and ends in the other.
+    ///
+    /// # Examples
     ///
     /// ```
     /// use fosibegan::{AddressSet, IpNetwork};
@@ -214,6 +234,8 @@ impl<N: Network> AddressSet<N> {
 
     /// Removes all addresses, and frees the memory.
     ///
+    /// # Examples
+    ///
     /// ```
     /// use fosibegan::{AddressSet, IpNetwork};
     ///
@@ -228,7 +250,7 @@ impl<N: Network> AddressSet<N> {
 }
 
 impl<N: Network> Default for AddressSet<N> {
-    /// An empty set. It does not allocate.
+    /// Creates an empty set. It does not allocate.
     fn default() -> Self {
         let (v4, v6) = (CoreVec::new(Global), CoreVec::new(Global));
         Self::of_parts(CoreSet::from_networks(v4), CoreSet::from_networks(v6))

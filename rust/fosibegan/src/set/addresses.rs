@@ -4,15 +4,17 @@ use crate::{AddressSetBuilder, IpNetwork, Ipv4Network, Ipv6Network, Network};
 use core::net::{IpAddr, Ipv4Addr, Ipv6Addr};
 use core::ops::RangeInclusive;
 
-/// What an [`AddressSet<N>`](crate::AddressSet) is collected from, and extended by: networks of the
-/// type `N`, addresses, and ranges of addresses with both ends included. Other crates cannot
+/// What an [`AddressSet<N>`](crate::AddressSet) can be collected from and extended by: networks of
+/// the type `N`, addresses, and ranges of addresses with both ends included. Other crates cannot
 /// implement it.
 ///
 /// A set of both families, `AddressSet<IpNetwork>`, also takes those of one family. Each may be
 /// owned or borrowed.
 ///
-/// A range that ends before it begins has no addresses, as in `std`. One that begins in one address
-/// family and ends in the other is refused by a panic: it would have nearly everything.
+/// A range that ends before it begins has no addresses, as in `std`. A range that begins in one
+/// address family and ends in the other causes a panic: it would contain nearly everything.
+///
+/// # Examples
 ///
 /// ```
 /// use fosibegan::{Addresses, AddressSet, IpNetwork, Ipv4Network};

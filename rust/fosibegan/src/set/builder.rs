@@ -13,13 +13,16 @@ use fosibegan_core::{AddressSet as CoreSet, AddressSpace, aggregate_in_place};
 
 /// An [`AddressSet`] that is being put together, one network or range at a time.
 ///
-/// [`AddressSet::insert`] puts each network in its place at once, and moves others for that. A
-/// builder only notes it: 400,000 networks in random order take 0.1 seconds instead of 17. Whenever
-/// its list has doubled, it is reduced to the fewest networks, so that it needs no more memory than
-/// about twice that of the set, however often the same addresses come.
+/// [`AddressSet::insert`] puts each network in its place at once, and moves others to make room. A
+/// builder only takes note of it: 400,000 networks in random order take a tenth of a second instead
+/// of more than ten. Whenever its list has become four times as long, from 65,536 networks on, it
+/// is reduced to the fewest, so it never needs much more than four times the memory of the set,
+/// however often the same addresses come.
 ///
-/// A builder also takes all that an iterator yields (`extend`), but an iterator alone is
-/// [collected](AddressSet#impl-FromIterator<T>-for-AddressSet<N>) without one.
+/// A builder can be extended by iterators too; a single iterator is
+/// [collected](AddressSet#impl-FromIterator<T>-for-AddressSet<N>) without a builder.
+///
+/// # Examples
 ///
 /// ```
 /// use fosibegan::{AddressSet, AddressSetBuilder, IpNetwork};
@@ -41,9 +44,11 @@ pub struct AddressSetBuilder<N: Network = IpNetwork> {
 }
 
 impl AddressSetBuilder {
-    /// An empty builder for a set of both families. It does not allocate.
+    /// Creates an empty builder for a set of both families. It does not allocate.
     ///
     /// A builder for one family is made by [`AddressSet::builder`] or by `default`.
+    ///
+    /// # Examples
     ///
     /// ```
     /// use fosibegan::AddressSetBuilder;
@@ -60,7 +65,9 @@ impl AddressSetBuilder {
 }
 
 impl<N: Network> AddressSetBuilder<N> {
-    /// An empty builder with memory for `capacity` networks of each family that `N` has.
+    /// Creates an empty builder with memory for `capacity` networks of each family that `N` has.
+    ///
+    /// # Examples
     ///
     /// ```
     /// use fosibegan::{AddressSetBuilder, Ipv4Network};
@@ -75,11 +82,13 @@ impl<N: Network> AddressSetBuilder<N> {
         builder
     }
 
-    /// Makes room for `additional` more networks of each family that `N` has.
+    /// Reserves memory for `additional` more networks of each family that `N` has.
     ///
     /// # Panics
     ///
     /// Panics if the new capacity exceeds `isize::MAX` bytes.
+    ///
+    /// # Examples
     ///
     /// ```
     /// use fosibegan::AddressSetBuilder;
@@ -98,12 +107,14 @@ impl<N: Network> AddressSetBuilder<N> {
         }
     }
 
-    /// Tries to make room for `additional` more networks of each family that `N` has.
+    /// Tries to reserve memory for `additional` more networks of each family that `N` has.
     ///
     /// # Errors
     ///
-    /// An error is returned if the new capacity exceeds `isize::MAX` bytes, or if there is no memory
+    /// Returns an error if the new capacity exceeds `isize::MAX` bytes, or if there is no memory
     /// for it. The builder then has what it had.
+    ///
+    /// # Examples
     ///
     /// ```
     /// use fosibegan::AddressSetBuilder;
@@ -123,7 +134,9 @@ impl<N: Network> AddressSetBuilder<N> {
         Ok(())
     }
 
-    /// Adds the addresses of a network. Host bits mean nothing.
+    /// Adds the addresses of a network. Host bits make no difference.
+    ///
+    /// # Examples
     ///
     /// ```
     /// use fosibegan::AddressSetBuilder;
@@ -148,6 +161,8 @@ impl<N: Network> AddressSetBuilder<N> {
     ///
     /// Panics if the range begins in one address family and ends in the other.
     ///
+    /// # Examples
+    ///
     /// ```
     /// use fosibegan::AddressSetBuilder;
     ///
@@ -166,7 +181,9 @@ impl<N: Network> AddressSetBuilder<N> {
             .for_each(|block| self.v6.push(block));
     }
 
-    /// The set of all the addresses that were added.
+    /// Returns the set of all addresses that were added.
+    ///
+    /// # Examples
     ///
     /// ```
     /// use fosibegan::{AddressSet, AddressSetBuilder};
@@ -181,7 +198,7 @@ impl<N: Network> AddressSetBuilder<N> {
 }
 
 impl<N: Network> Default for AddressSetBuilder<N> {
-    /// An empty builder. It does not allocate.
+    /// Creates an empty builder. It does not allocate.
     fn default() -> Self {
         Self {
             v4: Gathered::default(),
@@ -192,12 +209,26 @@ impl<N: Network> Default for AddressSetBuilder<N> {
 }
 
 impl<N: Network, T: Addresses<N>> Extend<T> for AddressSetBuilder<N> {
+    /// Adds the addresses of all items.
+    ///
+    /// # Panics
+    ///
+    /// Panics if a range begins in one address family and ends in the other.
     fn extend<I: IntoIterator<Item = T>>(&mut self, items: I) {
-        items.into_iter().for_each(|item| item.add_to(self));
+        let items = items.into_iter();
+        let (least, _) = items.size_hint();
+        self.v4.expect(least);
+        self.v6.expect(least);
+        items.for_each(|item| item.add_to(self));
     }
 }
 
 impl<N: Network, T: Addresses<N>> FromIterator<T> for AddressSetBuilder<N> {
+    /// Creates a builder with the addresses of all items.
+    ///
+    /// # Panics
+    ///
+    /// Panics if a range begins in one address family and ends in the other.
     fn from_iter<I: IntoIterator<Item = T>>(items: I) -> Self {
         let mut builder = Self::default();
         builder.extend(items);
@@ -211,15 +242,15 @@ impl<N: Network> fmt::Debug for AddressSetBuilder<N> {
     }
 }
 
-/// A list of as many networks is not worth reducing.
-const FEW: usize = 64;
+/// A list of so many networks is not worth reducing: it takes a megabyte or so.
+const FEW: usize = 1 << 16;
 
 /// Networks of one family, in any order.
 #[derive(Clone)]
 struct Gathered<C> {
     networks: Vec<C>,
-    /// The length at which the list is reduced to the fewest networks: at least twice what it had
-    /// then, so that this takes no more time, over all, than to sort the whole list a few times.
+    /// The length at which the list is reduced to the fewest networks: four times what was left of
+    /// it the last time, so that over all this takes less time than to sort the whole list again.
     limit: usize,
 }
 
@@ -241,11 +272,16 @@ impl<C: AddressSpace> Gathered<C> {
         self.networks.push(network);
     }
 
+    /// So many networks that come at once are sorted once.
+    fn expect(&mut self, more: usize) {
+        self.limit = self.limit.max(self.networks.len().saturating_add(more));
+    }
+
     #[cold]
     fn reduce(&mut self) {
         let count = aggregate_in_place(&mut self.networks);
         self.networks.truncate(count);
-        self.limit = FEW.max(count.saturating_mul(2));
+        self.limit = FEW.max(count.saturating_mul(4));
     }
 
     fn into_set(self) -> CoreSet<C> {

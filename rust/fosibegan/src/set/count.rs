@@ -12,11 +12,13 @@ const LOWER: u128 = 374_607_431_768_211_456;
 const LOWER_UNIT: u128 = 1_000_000_000_000_000_000;
 
 /// A number of addresses: what [`AddressSet::address_count`](crate::AddressSet::address_count)
-/// returns. It is exact.
+/// returns. It is always exact.
 ///
 /// IPv6 has 2<sup>128</sup> addresses, one more than the greatest `u128`, and IPv4 has
 /// 2<sup>32</sup> others. So a count is a type of its own: it is compared with numbers, printed in
 /// decimal, and converted by `try_from` where it fits.
+///
+/// # Examples
 ///
 /// ```
 /// use fosibegan::{AddressCount, AddressSet, Ipv6Network};
@@ -95,7 +97,7 @@ impl PartialOrd<AddressCount> for u128 {
 impl TryFrom<AddressCount> for u128 {
     type Error = TryFromIntError;
 
-    /// The number, unless it is 2<sup>128</sup> or more.
+    /// Returns the number. Fails if it is 2<sup>128</sup> or more.
     fn try_from(count: AddressCount) -> Result<u128, TryFromIntError> {
         if count.is_past_128_bits {
             // The error of a number that does not fit, which only a conversion makes.
@@ -111,7 +113,7 @@ macro_rules! smaller {
         impl TryFrom<AddressCount> for $number {
             type Error = TryFromIntError;
 
-            /// The number, if it fits.
+            /// Returns the number if it fits.
             fn try_from(count: AddressCount) -> Result<$number, TryFromIntError> {
                 $number::try_from(u128::try_from(count)?)
             }
@@ -122,7 +124,7 @@ macro_rules! smaller {
 smaller!(u32, u64, usize);
 
 impl fmt::Display for AddressCount {
-    /// The number in decimal. Width, fill and alignment are respected.
+    /// Writes the number in decimal, and respects width, fill and alignment.
     fn fmt(&self, f: &mut fmt::Formatter<'_>) -> fmt::Result {
         if !self.is_past_128_bits {
             return fmt::Display::fmt(&self.rest, f);

@@ -12,8 +12,11 @@ use fosibegan_core::{AddressSet as CoreSet, AddressSlice, AddressSpace, Differen
 /// An iterator over the networks of the addresses within a network that a set does not have: what
 /// [`AddressSet::free_in`] returns.
 ///
+/// # Examples
+///
 /// ```
-/// use fosibegan::{AddressSet, FreeIn, IpNetwork};
+/// use fosibegan::{AddressSet, IpNetwork};
+/// use fosibegan::address_set::FreeIn;
 ///
 /// let used = AddressSet::from(["192.0.2.0/26".parse::<IpNetwork>()?]);
 /// let mut free: FreeIn<'_> = used.free_in("192.0.2.0/24".parse()?);
@@ -29,9 +32,11 @@ pub struct FreeIn<'a, N: Network = IpNetwork> {
 }
 
 impl<N: Network> AddressSet<N> {
-    /// The networks of the addresses of `within` that are not in the set, in ascending order: the
-    /// fewest that have these addresses. Takes a binary search, and goes over the networks of the
-    /// set that lie within `within`.
+    /// Returns an iterator over what is free in `within`: the fewest networks that contain exactly
+    /// the addresses of `within` that are not in the set, in ascending order. Takes a binary
+    /// search, and goes over the networks of the set that lie within `within`.
+    ///
+    /// # Examples
     ///
     /// ```
     /// use fosibegan::{AddressSet, IpNetwork};
@@ -52,12 +57,14 @@ impl<N: Network> AddressSet<N> {
         }
     }
 
-    /// The first network of this prefix length within `within` that has no address of the set, and
-    /// may be given away next. `None` if there is none, if `prefix` is shorter than that of
+    /// Returns the first network of this prefix length in `within` that contains no address of the
+    /// set. Returns `None` if there is none, if `prefix` is shorter than the prefix length of
     /// `within`, or if it is too long for the family.
     ///
     /// The set does not change: [`insert`](Self::insert) the network if you take it. Takes a binary
     /// search, and goes over the networks of the set that lie within `within`.
+    ///
+    /// # Examples
     ///
     /// ```
     /// use fosibegan::{AddressSet, IpNetwork};
@@ -78,9 +85,11 @@ impl<N: Network> AddressSet<N> {
         }
     }
 
-    /// The largest network within `within` that has no address of the set; of several as large, the
-    /// first. `None` if every address of `within` is in the set. Takes a binary search, and goes over
-    /// the networks of the set that lie within `within`.
+    /// Returns the largest network in `within` that contains no address of the set, and the first
+    /// one if several are as large. Returns `None` if every address of `within` is in the set.
+    /// Takes a binary search, and goes over the networks of the set that lie within `within`.
+    ///
+    /// # Examples
     ///
     /// ```
     /// use fosibegan::{AddressSet, IpNetwork};

@@ -9,10 +9,11 @@ use core::net::IpAddr;
 use fosibegan_core::AddressIndex;
 use fosibegan_core::plain_std::alloc::Global;
 
-/// A set of IP addresses that does not change, and answers fastest.
+/// A set of IP addresses that does not change and answers fastest.
 ///
-/// It is made by [`AddressSet::freeze`], from the set or from an iterator. To change it, keep the
-/// set, change that and freeze it again, which takes about as long as to copy the set a few times.
+/// It is made by [`AddressSet::freeze`], by `FrozenSet::from(&set)`, or by collecting an iterator.
+/// To change it, keep the set, change that, and freeze it again, which takes about as long as
+/// copying the set a few times.
 ///
 /// ```
 /// use fosibegan::{FrozenSet, IpNetwork};
@@ -29,26 +30,29 @@ use fosibegan_core::plain_std::alloc::Global;
 ///
 /// As with an [`AddressSet`], an IPv4-mapped address such as `::ffff:10.1.2.3` is an IPv6 address:
 /// ask `contains(addr.to_canonical())`, or [`contains_mapped`](FrozenSet::contains_mapped). **An
-/// empty set contains no address**, so that an empty deny list lets everybody in.
+/// empty set contains no address**, so an empty deny list lets everybody in.
 ///
 /// # Cost
 ///
-/// [`contains`](Self::contains) takes a few reads if the networks are spread out, 8 ns for 10,000 of
-/// them, and no longer than a binary search if they are not. For each place where the set begins or
-/// ends it has, of IPv4, 8 to 20 bytes, and of IPv6 20 to 40.
+/// [`contains`](Self::contains) takes a few reads if the networks are spread out (8 ns for 10,000
+/// of them), and no longer than a binary search if they are not. Each end of a range of the set
+/// takes 8 to 20 bytes for IPv4, and 20 to 40 for IPv6.
 #[derive(Clone)]
 pub struct FrozenSet<N: Network = IpNetwork> {
     v4: AddressIndex<CoreV4>,
     v6: AddressIndex<CoreV6>,
+    len: usize,
     family: PhantomData<N>,
 }
 
 impl FrozenSet {
-    /// Whether the set contains an address in either of its forms.
+    /// Returns `true` if the set contains an address in either of its forms.
     ///
-    /// Of an IPv4-mapped address such as `::ffff:10.1.2.3`, this is whether the set contains the
-    /// IPv4 address (`10.1.2.3`) or the IPv6 address as it stands. Of every other address it is
-    /// [`contains`](Self::contains).
+    /// For an IPv4-mapped address such as `::ffff:10.1.2.3`, this is `true` if the set contains the
+    /// IPv4 address (`10.1.2.3`) or the IPv6 address as it stands. For every other address it is
+    /// the same as [`contains`](Self::contains).
+    ///
+    /// # Examples
     ///
     /// ```
     /// use fosibegan::{FrozenSet, IpNetwork};
@@ -71,7 +75,9 @@ impl FrozenSet {
 }
 
 impl<N: Network> FrozenSet<N> {
-    /// Whether the set contains an address.
+    /// Returns `true` if the set contains an address.
+    ///
+    /// # Examples
     ///
     /// ```
     /// use fosibegan::{FrozenSet, Ipv4Network};
@@ -92,11 +98,14 @@ impl<N: Network> FrozenSet<N> {
         }
     }
 
-    /// Writes whether the set contains each of the addresses to the same place in `answers`.
+    /// Writes to each place of `answers` whether the set contains the address at the same place of
+    /// `addrs`.
     ///
     /// # Panics
     ///
     /// Panics if there are not as many answers as addresses.
+    ///
+    /// # Examples
     ///
     /// ```
     /// use fosibegan::{FrozenSet, Ipv4Network};
@@ -121,7 +130,9 @@ impl<N: Network> FrozenSet<N> {
         }
     }
 
-    /// Whether the set contains no address.
+    /// Returns `true` if the set contains no address.
+    ///
+    /// # Examples
     ///
     /// ```
     /// use fosibegan::{AddressSet, FrozenSet, IpNetwork};
@@ -133,11 +144,25 @@ impl<N: Network> FrozenSet<N> {
     /// ```
     #[must_use]
     pub fn is_empty(&self) -> bool {
-        // An index of one range alone has none of the family's addresses, or all of them.
-        self.v4.range_count() == 1
-            && self.v6.range_count() == 1
-            && !self.v4.contains(asked_v4(0.into()))
-            && !self.v6.contains(asked_v6(0.into()))
+        self.len == 0
+    }
+
+    /// Returns the number of networks that contain exactly the addresses of the set: as many as the
+    /// [`AddressSet`] has that it was made from.
+    ///
+    /// # Examples
+    ///
+    /// ```
+    /// use fosibegan::{FrozenSet, IpNetwork};
+    ///
+    /// let halves = ["10.0.0.0/9".parse::<IpNetwork>()?, "10.128.0.0/9".parse()?];
+    /// let allowed = FrozenSet::from_iter(halves);
+    /// assert_eq!(allowed.len(), 1);
+    /// # Ok::<(), Box<dyn std::error::Error>>(())
+    /// ```
+    #[must_use]
+    pub fn len(&self) -> usize {
+        self.len
     }
 }
 
@@ -146,6 +171,7 @@ impl<N: Network> From<&AddressSet<N>> for FrozenSet<N> {
         FrozenSet {
             v4: or_abort(AddressIndex::from_set(Global, &set.v4)),
             v6: or_abort(AddressIndex::from_set(Global, &set.v6)),
+            len: set.len(),
             family: PhantomData,
         }
     }
@@ -164,7 +190,7 @@ impl<N: Network, T: Addresses<N>> FromIterator<T> for FrozenSet<N> {
 }
 
 impl<N: Network> Default for FrozenSet<N> {
-    /// An empty set.
+    /// Creates an empty set.
     fn default() -> Self {
         AddressSet::default().into()
     }

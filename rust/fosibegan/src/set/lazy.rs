@@ -11,8 +11,11 @@ use fosibegan_core as library;
 /// An iterator over the networks of the addresses that are in one of two sets or in both: what
 /// [`AddressSet::union`] returns.
 ///
+/// # Examples
+///
 /// ```
-/// use fosibegan::{AddressSet, IpNetwork, Union};
+/// use fosibegan::{AddressSet, IpNetwork};
+/// use fosibegan::address_set::Union;
 ///
 /// let lower = AddressSet::from(["10.0.0.0/9".parse::<IpNetwork>()?]);
 /// let upper = AddressSet::from(["10.128.0.0/9".parse::<IpNetwork>()?]);
@@ -30,8 +33,11 @@ pub struct Union<'a, N: Network = IpNetwork> {
 /// An iterator over the networks of the addresses that are in both of two sets: what
 /// [`AddressSet::intersection`] returns.
 ///
+/// # Examples
+///
 /// ```
-/// use fosibegan::{AddressSet, Intersection, IpNetwork};
+/// use fosibegan::{AddressSet, IpNetwork};
+/// use fosibegan::address_set::Intersection;
 ///
 /// let private = AddressSet::from(["10.0.0.0/8".parse::<IpNetwork>()?]);
 /// let used = AddressSet::from(["10.1.0.0/16".parse::<IpNetwork>()?, "192.0.2.0/24".parse()?]);
@@ -50,8 +56,11 @@ pub struct Intersection<'a, N: Network = IpNetwork> {
 /// An iterator over the networks of the addresses that are in one set and not in another: what
 /// [`AddressSet::difference`] returns.
 ///
+/// # Examples
+///
 /// ```
-/// use fosibegan::{AddressSet, Difference, IpNetwork};
+/// use fosibegan::{AddressSet, IpNetwork};
+/// use fosibegan::address_set::Difference;
 ///
 /// let private = AddressSet::from(["10.0.0.0/8".parse::<IpNetwork>()?]);
 /// let used = AddressSet::from(["10.0.0.0/9".parse::<IpNetwork>()?]);
@@ -69,8 +78,11 @@ pub struct Difference<'a, N: Network = IpNetwork> {
 /// An iterator over the networks of the addresses that are not in a set: what
 /// [`AddressSet::complement`] returns.
 ///
+/// # Examples
+///
 /// ```
-/// use fosibegan::{AddressSet, Complement, IpNetwork};
+/// use fosibegan::{AddressSet, IpNetwork};
+/// use fosibegan::address_set::Complement;
 ///
 /// let set = AddressSet::from(["0.0.0.0/1".parse::<IpNetwork>()?]);
 /// let mut others: Complement<'_> = set.complement();
@@ -86,11 +98,13 @@ pub struct Complement<'a, N: Network = IpNetwork> {
 }
 
 impl<N: Network> AddressSet<N> {
-    /// The networks of the addresses that are in this set, in `other` or in both, in ascending
-    /// order, IPv4 first: the fewest that have these addresses. Goes over both lists once, as the
-    /// iterator advances.
+    /// Returns an iterator over the union: the fewest networks that contain exactly the addresses
+    /// that are in this set, in `other`, or in both, in ascending order, IPv4 first. It goes over
+    /// both lists once, as it advances.
     ///
-    /// The set of these addresses is `&set | &other`.
+    /// As a set, this is `&set | &other`.
+    ///
+    /// # Examples
     ///
     /// ```
     /// use fosibegan::{AddressSet, IpNetwork};
@@ -112,10 +126,13 @@ impl<N: Network> AddressSet<N> {
         }
     }
 
-    /// The networks of the addresses that are in both sets, in ascending order, IPv4 first: the
-    /// fewest that have these addresses. Goes over both lists once, as the iterator advances.
+    /// Returns an iterator over the intersection: the fewest networks that contain exactly the
+    /// addresses that are in both sets, in ascending order, IPv4 first. It goes over both lists
+    /// once, as it advances.
     ///
-    /// The set of these addresses is `&set & &other`.
+    /// As a set, this is `&set & &other`.
+    ///
+    /// # Examples
     ///
     /// ```
     /// use fosibegan::{AddressSet, IpNetwork};
@@ -137,11 +154,13 @@ impl<N: Network> AddressSet<N> {
         }
     }
 
-    /// The networks of the addresses that are in this set and not in `other`, in ascending order,
-    /// IPv4 first: the fewest that have these addresses. Goes over both lists once, as the iterator
-    /// advances.
+    /// Returns an iterator over the difference: the fewest networks that contain exactly the
+    /// addresses that are in this set and not in `other`, in ascending order, IPv4 first. It goes
+    /// over both lists once, as it advances.
     ///
-    /// The set of these addresses is `&set - &other`.
+    /// As a set, this is `&set - &other`.
+    ///
+    /// # Examples
     ///
     /// ```
     /// use fosibegan::{AddressSet, IpNetwork};
@@ -161,11 +180,13 @@ impl<N: Network> AddressSet<N> {
         }
     }
 
-    /// The networks of all addresses that are not in the set, in ascending order, IPv4 first: the
-    /// fewest that have these addresses. Of a set of one family these are addresses of that family;
-    /// of an `AddressSet<IpNetwork>`, of both.
+    /// Returns an iterator over the complement: the fewest networks that contain exactly the
+    /// addresses that are not in the set, in ascending order, IPv4 first. For a set of one family
+    /// these are addresses of that family; for an `AddressSet<IpNetwork>`, of both.
     ///
-    /// The set of these addresses is `!&set`. **The complement of an empty set has every address.**
+    /// As a set, this is `!&set`. **The complement of an empty set contains every address.**
+    ///
+    /// # Examples
     ///
     /// ```
     /// use fosibegan::{AddressSet, Ipv4Network};

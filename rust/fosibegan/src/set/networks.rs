@@ -13,8 +13,11 @@ use core::slice;
 ///
 /// It knows its length, goes in both directions, and skips in constant time (`nth`, `nth_back`).
 ///
+/// # Examples
+///
 /// ```
-/// use fosibegan::{AddressSet, IpNetwork, Networks};
+/// use fosibegan::{AddressSet, IpNetwork};
+/// use fosibegan::address_set::Networks;
 ///
 /// let set = AddressSet::from(["10.0.0.0/8".parse::<IpNetwork>()?, "2001:db8::/32".parse()?]);
 /// let mut networks: Networks<'_> = set.networks();
@@ -33,8 +36,11 @@ pub struct Networks<'a, N: Network = IpNetwork> {
 /// An owning iterator over the networks of an [`AddressSet`], in ascending order, IPv4 first: what
 /// [`into_iter`](IntoIterator::into_iter) of a set returns.
 ///
+/// # Examples
+///
 /// ```
-/// use fosibegan::{AddressSet, IntoNetworks, IpNetwork};
+/// use fosibegan::{AddressSet, IpNetwork};
+/// use fosibegan::address_set::IntoNetworks;
 ///
 /// let set = AddressSet::from(["10.0.0.0/8".parse::<IpNetwork>()?]);
 /// let mut networks: IntoNetworks = set.into_iter();
@@ -51,7 +57,10 @@ pub struct IntoNetworks<N: Network = IpNetwork> {
 }
 
 impl<N: Network> AddressSet<N> {
-    /// The networks of the set, in ascending order, IPv4 first: the fewest that have its addresses.
+    /// Returns an iterator over the networks of the set: the fewest that contain exactly its
+    /// addresses, in ascending order, IPv4 first.
+    ///
+    /// # Examples
     ///
     /// ```
     /// use fosibegan::{AddressSet, IpNetwork};
@@ -70,7 +79,9 @@ impl<N: Network> AddressSet<N> {
         }
     }
 
-    /// The networks of the set: another name of [`networks`](Self::networks).
+    /// Returns an iterator over the networks of the set, as [`networks`](Self::networks) does.
+    ///
+    /// # Examples
     ///
     /// ```
     /// use fosibegan::{AddressSet, IpNetwork};
@@ -189,7 +200,7 @@ networks!(Networks of '_);
 networks!(IntoNetworks);
 
 impl<N: Network> Default for Networks<'_, N> {
-    /// An iterator over no networks.
+    /// Creates an iterator over no networks.
     fn default() -> Self {
         Networks {
             v4: [].iter().copied(),

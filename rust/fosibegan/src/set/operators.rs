@@ -52,7 +52,9 @@ fn subtract<C: AddressSpace>(set: &mut CoreSet<C>, other: &CoreSet<C>) {
 impl<N: Network> BitOr for &AddressSet<N> {
     type Output = AddressSet<N>;
 
-    /// The set of the addresses that are in one of the sets or in both.
+    /// Returns the set of the addresses that are in one of the sets or in both.
+    ///
+    /// # Examples
     ///
     /// ```
     /// use fosibegan::{AddressSet, IpNetwork};
@@ -70,7 +72,9 @@ impl<N: Network> BitOr for &AddressSet<N> {
 impl<N: Network> BitAnd for &AddressSet<N> {
     type Output = AddressSet<N>;
 
-    /// The set of the addresses that are in both sets.
+    /// Returns the set of the addresses that are in both sets.
+    ///
+    /// # Examples
     ///
     /// ```
     /// use fosibegan::{AddressSet, IpNetwork};
@@ -89,7 +93,9 @@ impl<N: Network> BitAnd for &AddressSet<N> {
 impl<N: Network> Sub for &AddressSet<N> {
     type Output = AddressSet<N>;
 
-    /// The set of the addresses that are in the first set and not in the second.
+    /// Returns the set of the addresses that are in the first set and not in the second.
+    ///
+    /// # Examples
     ///
     /// ```
     /// use fosibegan::{AddressSet, IpNetwork};
@@ -108,7 +114,9 @@ impl<N: Network> Sub for &AddressSet<N> {
 impl<N: Network> BitXor for &AddressSet<N> {
     type Output = AddressSet<N>;
 
-    /// The set of the addresses that are in one of the sets and not in both.
+    /// Returns the set of the addresses that are in one of the sets and not in both.
+    ///
+    /// # Examples
     ///
     /// ```
     /// use fosibegan::{AddressSet, IpNetwork};
@@ -127,8 +135,10 @@ impl<N: Network> BitXor for &AddressSet<N> {
 impl<N: Network> Not for &AddressSet<N> {
     type Output = AddressSet<N>;
 
-    /// The set of all addresses that are not in this one: of the family of the set, or of both.
-    /// **Of an empty set that is every address.**
+    /// Returns the set of all addresses that are not in this one: those of its family, or of both
+    /// families if it holds both. **For an empty set that is every address.**
+    ///
+    /// # Examples
     ///
     /// ```
     /// use fosibegan::{AddressSet, Ipv4Network};
@@ -155,7 +165,7 @@ impl<N: Network> Not for &AddressSet<N> {
 impl<N: Network> Not for AddressSet<N> {
     type Output = AddressSet<N>;
 
-    /// The set of all addresses that are not in this one, as of a reference.
+    /// Returns the set of all addresses that are not in this one, as `!&set` does.
     fn not(self) -> AddressSet<N> {
         !&self
     }
@@ -163,6 +173,8 @@ impl<N: Network> Not for AddressSet<N> {
 
 impl<N: Network> BitOrAssign<&AddressSet<N>> for AddressSet<N> {
     /// Adds the addresses of the other set.
+    ///
+    /// # Examples
     ///
     /// ```
     /// use fosibegan::{AddressSet, IpNetwork};
@@ -187,6 +199,8 @@ impl<N: Network> BitAndAssign<&AddressSet<N>> for AddressSet<N> {
 
 impl<N: Network> SubAssign<&AddressSet<N>> for AddressSet<N> {
     /// Removes the addresses of the other set.
+    ///
+    /// # Examples
     ///
     /// ```
     /// use fosibegan::{AddressSet, IpNetwork};

@@ -5,11 +5,13 @@ use crate::{AddressCount, AddressSet, FrozenSet, IpNetwork, Network};
 use core::net::IpAddr;
 
 impl AddressSet {
-    /// Whether the set contains an address in either of its forms.
+    /// Returns `true` if the set contains an address in either of its forms.
     ///
-    /// Of an IPv4-mapped address such as `::ffff:10.1.2.3`, this is whether the set contains the
-    /// IPv4 address (`10.1.2.3`) or the IPv6 address as it stands. Of every other address it is
-    /// [`contains`](Self::contains).
+    /// For an IPv4-mapped address such as `::ffff:10.1.2.3`, this is `true` if the set contains the
+    /// IPv4 address (`10.1.2.3`) or the IPv6 address as it stands. For every other address it is
+    /// the same as [`contains`](Self::contains).
+    ///
+    /// # Examples
     ///
     /// ```
     /// use fosibegan::{AddressSet, IpNetwork};
@@ -34,7 +36,9 @@ impl AddressSet {
 }
 
 impl<N: Network> AddressSet<N> {
-    /// Whether the set contains no address.
+    /// Returns `true` if the set contains no address.
+    ///
+    /// # Examples
     ///
     /// ```
     /// use fosibegan::{AddressSet, IpNetwork};
@@ -45,7 +49,7 @@ impl<N: Network> AddressSet<N> {
     ///     .filter(|line| !line.starts_with('#'))
     ///     .map(str::parse::<IpNetwork>)
     ///     .collect::<Result<AddressSet, _>>()?;
-    /// // To go on with this list would let everybody in: keep the last one that was not empty.
+    /// // This list would let everybody in: keep the last one that was not empty.
     /// assert!(denied.is_empty());
     /// # Ok::<(), Box<dyn std::error::Error>>(())
     /// ```
@@ -54,10 +58,12 @@ impl<N: Network> AddressSet<N> {
         self.v4.is_empty() && self.v6.is_empty()
     }
 
-    /// Whether the set contains an address. Takes a binary search.
+    /// Returns `true` if the set contains an address. Takes a binary search.
     ///
     /// An IPv4-mapped address such as `::ffff:10.1.2.3` is an IPv6 address here: see
     /// [above](AddressSet#ipv4-mapped-addresses).
+    ///
+    /// # Examples
     ///
     /// ```
     /// use fosibegan::{AddressSet, IpNetwork};
@@ -78,7 +84,9 @@ impl<N: Network> AddressSet<N> {
         }
     }
 
-    /// Whether the set contains every address of a network. Takes a binary search.
+    /// Returns `true` if the set contains every address of a network. Takes a binary search.
+    ///
+    /// # Examples
     ///
     /// ```
     /// use fosibegan::{AddressSet, IpNetwork};
@@ -98,7 +106,9 @@ impl<N: Network> AddressSet<N> {
         }
     }
 
-    /// Whether the set contains some address of a network. Takes a binary search.
+    /// Returns `true` if the set contains any address of a network. Takes a binary search.
+    ///
+    /// # Examples
     ///
     /// ```
     /// use fosibegan::{AddressSet, IpNetwork};
@@ -117,8 +127,10 @@ impl<N: Network> AddressSet<N> {
         }
     }
 
-    /// The number of networks that the set is kept as: the fewest that have its addresses. For the
-    /// number of addresses see [`address_count`](Self::address_count).
+    /// Returns the number of networks that the set is kept as: the fewest that contain exactly its
+    /// addresses. For the number of addresses see [`address_count`](Self::address_count).
+    ///
+    /// # Examples
     ///
     /// ```
     /// use fosibegan::{AddressSet, IpNetwork};
@@ -133,8 +145,10 @@ impl<N: Network> AddressSet<N> {
         self.v4.blocks().len() + self.v6.blocks().len()
     }
 
-    /// The number of addresses. It is exact, even of the set of all addresses of both families.
-    /// Goes over the networks once.
+    /// Returns the number of addresses, which is exact even for the set of all addresses of both
+    /// families. Goes over the networks once.
+    ///
+    /// # Examples
     ///
     /// ```
     /// use fosibegan::{AddressSet, IpNetwork};
@@ -150,7 +164,9 @@ impl<N: Network> AddressSet<N> {
         AddressCount::of_parts(self.v4.address_count(), self.v6.address_count())
     }
 
-    /// Whether each address of this set is in `other`. Goes over both lists once at most.
+    /// Returns `true` if each address of this set is in `other`. Goes over both lists once at most.
+    ///
+    /// # Examples
     ///
     /// ```
     /// use fosibegan::{AddressSet, IpNetwork};
@@ -166,7 +182,9 @@ impl<N: Network> AddressSet<N> {
         self.v4.is_subset_of(&other.v4) && self.v6.is_subset_of(&other.v6)
     }
 
-    /// Whether each address of `other` is in this set. Goes over both lists once at most.
+    /// Returns `true` if each address of `other` is in this set. Goes over both lists once at most.
+    ///
+    /// # Examples
     ///
     /// ```
     /// use fosibegan::{AddressSet, IpNetwork};
@@ -181,7 +199,9 @@ impl<N: Network> AddressSet<N> {
         other.is_subset(self)
     }
 
-    /// Whether no address is in both sets. Goes over both lists once at most.
+    /// Returns `true` if no address is in both sets. Goes over both lists once at most.
+    ///
+    /// # Examples
     ///
     /// ```
     /// use fosibegan::{AddressSet, IpNetwork};
@@ -196,8 +216,10 @@ impl<N: Network> AddressSet<N> {
         self.v4.is_disjoint_from(&other.v4) && self.v6.is_disjoint_from(&other.v6)
     }
 
-    /// The set in the form that is searched fastest, and that does not change: see [`FrozenSet`].
-    /// Goes over the networks once.
+    /// Returns a copy of the set in the form that is searched fastest and does not change: a
+    /// [`FrozenSet`]. Goes over the networks once, and leaves the set as it is.
+    ///
+    /// # Examples
     ///
     /// ```
     /// use fosibegan::{AddressSet, FrozenSet, IpNetwork};

@@ -12,8 +12,11 @@ use fosibegan_core::ipnetwork_family::CidrNetwork;
 /// An iterator over the ranges of addresses of an [`AddressSet`], in ascending order, IPv4 first:
 /// what [`AddressSet::ranges`] returns.
 ///
+/// # Examples
+///
 /// ```
-/// use fosibegan::{AddressSet, IpNetwork, Ranges};
+/// use fosibegan::{AddressSet, IpNetwork};
+/// use fosibegan::address_set::Ranges;
 ///
 /// let set = AddressSet::from(["10.0.0.0/8".parse::<IpNetwork>()?, "192.0.2.0/24".parse()?]);
 /// let mut ranges: Ranges<'_> = set.ranges();
@@ -29,9 +32,11 @@ pub struct Ranges<'a, N: Network = IpNetwork> {
 }
 
 impl<N: Network> AddressSet<N> {
-    /// The addresses of the set as ranges with both ends included, in ascending order, IPv4 first.
-    /// Each range is as long as it can be: between two of them there is an address that is not in
-    /// the set, or the end of IPv4.
+    /// Returns an iterator over the addresses of the set as inclusive ranges, in ascending order,
+    /// IPv4 first. Each range is as long as it can be: between two of them there is an address that
+    /// is not in the set, or the end of IPv4.
+    ///
+    /// # Examples
     ///
     /// ```
     /// use fosibegan::{AddressSet, Ipv4Network};

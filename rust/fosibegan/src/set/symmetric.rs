@@ -13,8 +13,11 @@ use fosibegan_core::{AddressSpace, RangeBlocks, range_to_blocks};
 /// An iterator over the networks of the addresses that are in one of two sets and not in both: what
 /// [`AddressSet::symmetric_difference`] returns.
 ///
+/// # Examples
+///
 /// ```
-/// use fosibegan::{AddressSet, IpNetwork, SymmetricDifference};
+/// use fosibegan::{AddressSet, IpNetwork};
+/// use fosibegan::address_set::SymmetricDifference;
 ///
 /// let before = AddressSet::from(["192.0.2.0/25".parse::<IpNetwork>()?]);
 /// let after = AddressSet::from(["192.0.2.0/24".parse::<IpNetwork>()?]);
@@ -31,11 +34,13 @@ pub struct SymmetricDifference<'a, N: Network = IpNetwork> {
 }
 
 impl<N: Network> AddressSet<N> {
-    /// The networks of the addresses that are in this set or in `other`, but not in both, in
-    /// ascending order, IPv4 first: the fewest that have these addresses. Goes over both lists
-    /// once, as the iterator advances.
+    /// Returns an iterator over the symmetric difference: the fewest networks that contain exactly
+    /// the addresses that are in this set or in `other`, but not in both, in ascending order, IPv4
+    /// first. It goes over both lists once, as it advances.
     ///
-    /// The set of these addresses is `&set ^ &other`.
+    /// As a set, this is `&set ^ &other`.
+    ///
+    /// # Examples
     ///
     /// ```
     /// use fosibegan::{AddressSet, IpNetwork};

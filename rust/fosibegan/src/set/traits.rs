@@ -13,7 +13,7 @@ impl<N: Network> Clone for AddressSet<N> {
 }
 
 impl<N: Network> fmt::Debug for AddressSet<N> {
-    /// The networks, as in `{10.0.0.0/8, 2001:db8::/32}`.
+    /// Writes the networks, as in `{10.0.0.0/8, 2001:db8::/32}`.
     fn fmt(&self, f: &mut fmt::Formatter<'_>) -> fmt::Result {
         f.debug_set().entries(self).finish()
     }
@@ -49,7 +49,7 @@ impl<N: Network> PartialOrd for AddressSet<N> {
 }
 
 impl<N: Network, T: Addresses<N>> FromIterator<T> for AddressSet<N> {
-    /// The set of the addresses of all items.
+    /// Creates the set of the addresses of all items.
     ///
     /// # Panics
     ///
@@ -71,7 +71,7 @@ impl<N: Network, T: Addresses<N>> Extend<T> for AddressSet<N> {
 }
 
 impl<N: Network, T: Addresses<N>, const K: usize> From<[T; K]> for AddressSet<N> {
-    /// The set of the addresses of all items.
+    /// Creates the set of the addresses of all items.
     ///
     /// # Panics
     ///

@@ -48,7 +48,7 @@ fn columns<N: Space>(seed: u64) {
                 frozen.clone().contains_each(&addrs, &mut answers);
                 assert_eq!(answers, expected);
             }
-            assert_eq!(frozen.is_empty(), size == 0);
+            assert_eq!((frozen.is_empty(), frozen.len()), (size == 0, set.len()));
             assert_eq!(format!("{frozen:?}"), "FrozenSet { .. }");
         }
     }

@@ -3,6 +3,7 @@
 use crate::space::Random;
 use fosibegan::{AddressCount, AddressSet, AddressSetBuilder, IpNetwork, Ipv4Network, Ipv6Network};
 use std::cmp::Ordering;
+use std::collections::BTreeSet;
 use std::net::{IpAddr, Ipv4Addr, Ipv6Addr};
 use std::ops::RangeInclusive;
 use std::panic::catch_unwind;
@@ -214,6 +215,28 @@ fn a_builder_keeps_what_is_distinct() {
         builder.insert(Ipv4Network::new(Ipv4Addr::new(192, 0, last, 1), 30).unwrap());
     }
     assert_eq!(builder.build().len(), 50);
+}
+
+/// A builder whose list is reduced a few times has everything in the end.
+#[test]
+fn a_builder_loses_nothing() {
+    let number = |place: u32| place.wrapping_mul(0x9e37_79b1) | 1;
+    let mut builder = AddressSetBuilder::new();
+    let mut numbers = BTreeSet::new();
+    for place in 0..600_000 {
+        let number = number(place);
+        builder.insert(IpAddr::V4(number.into()).into());
+        builder.insert(IpAddr::V6(Ipv6Addr::from_bits(u128::from(number) << 70)).into());
+        numbers.insert(number);
+    }
+    let set = builder.build();
+    let v4 = numbers
+        .iter()
+        .map(|number| IpAddr::V4((*number).into()).into());
+    let v6 = numbers
+        .iter()
+        .map(|number| IpAddr::V6(Ipv6Addr::from_bits(u128::from(*number) << 70)).into());
+    assert!(set.networks().eq(v4.chain(v6)));
 }
 
 #[test]

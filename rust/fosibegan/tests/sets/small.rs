@@ -205,7 +205,7 @@ fn change<N: Space>(set: &mut AddressSet<N>, model: &mut Model<N>, random: &mut 
 
 fn random_changes<N: Space>(seed: u64) {
     let mut random = Random(seed);
-    for _ in 0..30 {
+    for _ in 0..16 {
         let mut set = AddressSet::<N>::default();
         let mut model = Model::<N>::new();
         for step in 0..40 {
@@ -237,7 +237,7 @@ fn some<N: Space>(random: &mut Random) -> (AddressSet<N>, Model<N>) {
 
 fn random_pairs<N: Space>(seed: u64) {
     let mut random = Random(seed);
-    for round in 0..250 {
+    for round in 0..120 {
         let (set, model) = some::<N>(&mut random);
         let (other, others) = match round % 4 {
             // Two sets that share most of their edges, and one that lies in the other.

@@ -1,11 +1,11 @@
 //! The traits of `std` that sets have.
 
 use crate::space::Space;
-use fosibegan::{
-    AddressSet, AddressSetBuilder, Complement, Difference, FreeIn, FrozenSet, Intersection,
-    IntoNetworks, IpNetwork, Ipv4Network, Ipv6Network, Networks, Ranges, SymmetricDifference,
-    Union,
+use fosibegan::address_set::{
+    Complement, Difference, FreeIn, Intersection, IntoNetworks, Networks, Ranges,
+    SymmetricDifference, Union,
 };
+use fosibegan::{AddressSet, AddressSetBuilder, FrozenSet, IpNetwork, Ipv4Network, Ipv6Network};
 use std::collections::hash_map::DefaultHasher;
 use std::hash::{Hash, Hasher};
 
