@@ -1,4 +1,4 @@
-//! Networks of either family: how one is made, and what is asked about its addresses.
+//! Networks of either family: how one is made, and what it answers about its addresses.
 
 use super::masks::prefix_of_ip_mask;
 use crate::{IpNetworkError, IpNetworkIterator, Ipv4Network, Ipv6Network, NetworkSize};
@@ -33,16 +33,6 @@ pub enum IpNetwork {
     V4(Ipv4Network),
     /// An IPv6 network.
     V6(Ipv6Network),
-}
-
-/// Evaluates an expression for the network of a family.
-macro_rules! each {
-    ($either:expr, $network:ident => $answer:expr) => {
-        match $either {
-            IpNetwork::V4($network) => $answer,
-            IpNetwork::V6($network) => $answer,
-        }
-    };
 }
 
 impl IpNetwork {
@@ -90,6 +80,7 @@ impl IpNetwork {
     /// assert_eq!(IpNetwork::new_checked(IpAddr::V6(Ipv6Addr::LOCALHOST), 129), None);
     /// ```
     #[inline]
+    #[must_use]
     pub const fn new_checked(addr: IpAddr, prefix: u8) -> Option<Self> {
         match addr {
             IpAddr::V4(addr) => match Ipv4Network::new_checked(addr, prefix) {
@@ -142,6 +133,7 @@ impl IpNetwork {
     /// # Ok::<(), Box<dyn std::error::Error>>(())
     /// ```
     #[inline]
+    #[must_use]
     pub const fn ip(&self) -> IpAddr {
         match self {
             Self::V4(network) => IpAddr::V4(network.ip()),
@@ -162,8 +154,12 @@ impl IpNetwork {
     /// # Ok::<(), Box<dyn std::error::Error>>(())
     /// ```
     #[inline]
+    #[must_use]
     pub const fn prefix(&self) -> u8 {
-        each!(self, network => network.prefix())
+        match self {
+            Self::V4(network) => network.prefix(),
+            Self::V6(network) => network.prefix(),
+        }
     }
 
     /// Returns the mask in the network's family: as many ones as the prefix length says, followed
@@ -179,6 +175,7 @@ impl IpNetwork {
     /// # Ok::<(), Box<dyn std::error::Error>>(())
     /// ```
     #[inline]
+    #[must_use]
     pub const fn mask(&self) -> IpAddr {
         match self {
             Self::V4(network) => IpAddr::V4(network.mask()),
@@ -198,6 +195,7 @@ impl IpNetwork {
     /// # Ok::<(), Box<dyn std::error::Error>>(())
     /// ```
     #[inline]
+    #[must_use]
     pub const fn network(&self) -> IpAddr {
         match self {
             Self::V4(network) => IpAddr::V4(network.network()),
@@ -217,6 +215,7 @@ impl IpNetwork {
     /// # Ok::<(), Box<dyn std::error::Error>>(())
     /// ```
     #[inline]
+    #[must_use]
     pub const fn broadcast(&self) -> IpAddr {
         match self {
             Self::V4(network) => IpAddr::V4(network.broadcast()),
@@ -236,6 +235,7 @@ impl IpNetwork {
     /// # Ok::<(), Box<dyn std::error::Error>>(())
     /// ```
     #[inline]
+    #[must_use]
     pub const fn range(self) -> RangeInclusive<IpAddr> {
         RangeInclusive::new(self.network(), self.broadcast())
     }
@@ -252,6 +252,7 @@ impl IpNetwork {
     /// # Ok::<(), Box<dyn std::error::Error>>(())
     /// ```
     #[inline]
+    #[must_use]
     pub const fn is_ipv4(&self) -> bool {
         matches!(self, Self::V4(_))
     }
@@ -268,6 +269,7 @@ impl IpNetwork {
     /// # Ok::<(), Box<dyn std::error::Error>>(())
     /// ```
     #[inline]
+    #[must_use]
     pub const fn is_ipv6(&self) -> bool {
         matches!(self, Self::V6(_))
     }
@@ -284,6 +286,7 @@ impl IpNetwork {
     /// # Ok::<(), Box<dyn std::error::Error>>(())
     /// ```
     #[inline]
+    #[must_use]
     pub const fn size(&self) -> NetworkSize {
         match self {
             Self::V4(network) => NetworkSize::V4(network.size()),
@@ -305,6 +308,7 @@ impl IpNetwork {
     /// # Ok::<(), Box<dyn std::error::Error>>(())
     /// ```
     #[inline]
+    #[must_use]
     pub const fn nth(self, n: u128) -> Option<IpAddr> {
         match self {
             Self::V4(network) => {

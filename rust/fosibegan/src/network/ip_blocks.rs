@@ -28,6 +28,7 @@ impl IpNetwork {
     /// # Ok::<(), Box<dyn std::error::Error>>(())
     /// ```
     #[inline]
+    #[must_use]
     pub const fn contains(&self, addr: IpAddr) -> bool {
         match (self, addr) {
             (Self::V4(network), IpAddr::V4(addr)) => network.contains(addr),
@@ -53,6 +54,7 @@ impl IpNetwork {
     /// # Ok::<(), Box<dyn std::error::Error>>(())
     /// ```
     #[inline]
+    #[must_use]
     pub const fn contains_mapped(&self, addr: IpAddr) -> bool {
         self.contains(addr) || self.contains(addr.to_canonical())
     }
@@ -71,6 +73,7 @@ impl IpNetwork {
     /// # Ok::<(), Box<dyn std::error::Error>>(())
     /// ```
     #[inline]
+    #[must_use]
     pub const fn is_subnet_of(self, other: Self) -> bool {
         match (self, other) {
             (Self::V4(network), Self::V4(other)) => network.is_subnet_of(other),
@@ -93,6 +96,7 @@ impl IpNetwork {
     /// # Ok::<(), Box<dyn std::error::Error>>(())
     /// ```
     #[inline]
+    #[must_use]
     pub const fn is_supernet_of(self, other: Self) -> bool {
         other.is_subnet_of(self)
     }
@@ -111,6 +115,7 @@ impl IpNetwork {
     /// # Ok::<(), Box<dyn std::error::Error>>(())
     /// ```
     #[inline]
+    #[must_use]
     pub const fn overlaps(self, other: Self) -> bool {
         match (self, other) {
             (Self::V4(network), Self::V4(other)) => network.overlaps(other),

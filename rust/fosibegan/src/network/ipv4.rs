@@ -1,4 +1,4 @@
-//! IPv4 networks: how one is made, and what is asked about its addresses.
+//! IPv4 networks: how one is made, and what it answers about its addresses.
 
 use super::masks::prefix_of_ipv4_mask;
 use crate::{IpNetworkError, Ipv4NetworkIterator};
@@ -84,6 +84,7 @@ impl Ipv4Network {
     /// assert_eq!(Ipv4Network::new_checked(Ipv4Addr::LOCALHOST, 33), None);
     /// ```
     #[inline]
+    #[must_use]
     pub const fn new_checked(addr: Ipv4Addr, prefix: u8) -> Option<Self> {
         if prefix > Self::WIDTH {
             None
@@ -130,6 +131,7 @@ impl Ipv4Network {
     /// # Ok::<(), Box<dyn std::error::Error>>(())
     /// ```
     #[inline]
+    #[must_use]
     pub const fn ip(self) -> Ipv4Addr {
         self.addr
     }
@@ -147,6 +149,7 @@ impl Ipv4Network {
     /// # Ok::<(), Box<dyn std::error::Error>>(())
     /// ```
     #[inline]
+    #[must_use]
     pub const fn prefix(self) -> u8 {
         self.prefix
     }
@@ -164,8 +167,9 @@ impl Ipv4Network {
     /// # Ok::<(), Box<dyn std::error::Error>>(())
     /// ```
     #[inline]
+    #[must_use]
     pub const fn mask(&self) -> Ipv4Addr {
-        Ipv4Addr::from_bits(!self.host_bits())
+        Ipv4Addr::from_bits(self.mask_bits())
     }
 
     /// Returns the first address of the network, in which all host bits are zeros.
@@ -181,6 +185,7 @@ impl Ipv4Network {
     /// # Ok::<(), Box<dyn std::error::Error>>(())
     /// ```
     #[inline]
+    #[must_use]
     pub const fn network(&self) -> Ipv4Addr {
         Ipv4Addr::from_bits(self.first())
     }
@@ -198,6 +203,7 @@ impl Ipv4Network {
     /// # Ok::<(), Box<dyn std::error::Error>>(())
     /// ```
     #[inline]
+    #[must_use]
     pub const fn broadcast(&self) -> Ipv4Addr {
         Ipv4Addr::from_bits(self.last())
     }
@@ -216,6 +222,7 @@ impl Ipv4Network {
     /// # Ok::<(), Box<dyn std::error::Error>>(())
     /// ```
     #[inline]
+    #[must_use]
     pub const fn range(self) -> RangeInclusive<Ipv4Addr> {
         RangeInclusive::new(self.network(), self.broadcast())
     }
@@ -234,8 +241,9 @@ impl Ipv4Network {
     /// # Ok::<(), Box<dyn std::error::Error>>(())
     /// ```
     #[inline]
+    #[must_use]
     pub const fn contains(&self, addr: Ipv4Addr) -> bool {
-        (self.addr.to_bits() ^ addr.to_bits()) & !self.host_bits() == 0
+        (self.addr.to_bits() ^ addr.to_bits()) & self.mask_bits() == 0
     }
 
     /// Returns the number of addresses in the network.
@@ -252,8 +260,13 @@ impl Ipv4Network {
     /// # Ok::<(), Box<dyn std::error::Error>>(())
     /// ```
     #[inline]
+    #[must_use]
     pub const fn size(self) -> u32 {
-        self.host_bits().saturating_add(1)
+        if self.prefix == 0 {
+            u32::MAX
+        } else {
+            1 << (Self::WIDTH - self.prefix)
+        }
     }
 
     /// Returns the address number `n` of the network, counted from 0, or `None` if `n` is not less
@@ -274,6 +287,7 @@ impl Ipv4Network {
     /// # Ok::<(), Box<dyn std::error::Error>>(())
     /// ```
     #[inline]
+    #[must_use]
     pub const fn nth(self, n: u32) -> Option<Ipv4Addr> {
         if n < self.size() {
             Some(Ipv4Addr::from_bits(self.first() | n))
@@ -302,62 +316,6 @@ impl Ipv4Network {
         Ipv4NetworkIterator::between(self.first(), self.last())
     }
 
-    /// Returns `true` if each address of this network is also in `other`. Host bits make no
-    /// difference.
-    ///
-    /// # Examples
-    ///
-    /// ```
-    /// use fosibegan::Ipv4Network;
-    ///
-    /// let network: Ipv4Network = "10.1.0.0/16".parse()?;
-    /// assert!(network.is_subnet_of("10.1.9.32/8".parse()?));
-    /// assert!(!network.is_subnet_of("10.1.0.0/17".parse()?));
-    /// # Ok::<(), Box<dyn std::error::Error>>(())
-    /// ```
-    #[inline]
-    pub const fn is_subnet_of(self, other: Self) -> bool {
-        other.prefix <= self.prefix && other.contains(self.addr)
-    }
-
-    /// Returns `true` if each address of `other` is also in this network. Host bits make no
-    /// difference.
-    ///
-    /// # Examples
-    ///
-    /// ```
-    /// use fosibegan::Ipv4Network;
-    ///
-    /// let network: Ipv4Network = "10.1.9.32/8".parse()?;
-    /// assert!(network.is_supernet_of("10.1.0.0/16".parse()?));
-    /// assert!(!network.is_supernet_of("11.0.0.0/16".parse()?));
-    /// # Ok::<(), Box<dyn std::error::Error>>(())
-    /// ```
-    #[inline]
-    pub const fn is_supernet_of(self, other: Self) -> bool {
-        other.is_subnet_of(self)
-    }
-
-    /// Returns `true` if some address is in both networks. Host bits make no difference.
-    ///
-    /// Of two networks that overlap, one is a subnet of the other.
-    ///
-    /// # Examples
-    ///
-    /// ```
-    /// use fosibegan::Ipv4Network;
-    ///
-    /// let network: Ipv4Network = "10.1.0.0/16".parse()?;
-    /// assert!(network.overlaps("10.0.0.0/8".parse()?));
-    /// assert!(network.overlaps("10.1.2.0/24".parse()?));
-    /// assert!(!network.overlaps("10.2.0.0/16".parse()?));
-    /// # Ok::<(), Box<dyn std::error::Error>>(())
-    /// ```
-    #[inline]
-    pub const fn overlaps(self, other: Self) -> bool {
-        self.contains(other.addr) || other.contains(self.addr)
-    }
-
     /// The network of one address.
     #[inline]
     pub(super) const fn of_address(addr: Ipv4Addr) -> Self {
@@ -376,23 +334,24 @@ impl Ipv4Network {
         }
     }
 
-    /// The number whose ones are the host bits.
+    /// The mask, as a number.
     #[inline]
-    #[allow(clippy::cast_possible_truncation)]
-    pub(super) const fn host_bits(self) -> u32 {
-        // In 64 bits a shift by 32 needs no case of its own, and its result fits in 32.
-        (u32::MAX as u64 >> self.prefix) as u32
+    #[allow(clippy::cast_possible_truncation, clippy::cast_sign_loss)]
+    const fn mask_bits(self) -> u32 {
+        // The shift of a negative number moves ones into the low half. In 64 bits, a shift by 32
+        // needs no case of its own.
+        (-1_i64 << 32 >> self.prefix) as u32
     }
 
     /// The first address, as a number.
     #[inline]
     pub(super) const fn first(self) -> u32 {
-        self.addr.to_bits() & !self.host_bits()
+        self.addr.to_bits() & self.mask_bits()
     }
 
     /// The last address, as a number.
     #[inline]
     pub(super) const fn last(self) -> u32 {
-        self.addr.to_bits() | self.host_bits()
+        self.addr.to_bits() | !self.mask_bits()
     }
 }

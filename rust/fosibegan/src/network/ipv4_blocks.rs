@@ -7,6 +7,70 @@ use core::net::Ipv4Addr;
 use core::ops::RangeInclusive;
 
 impl Ipv4Network {
+    /// Returns `true` if each address of this network is also in `other`. Host bits make no
+    /// difference.
+    ///
+    /// # Examples
+    ///
+    /// ```
+    /// use fosibegan::Ipv4Network;
+    ///
+    /// let network: Ipv4Network = "10.1.0.0/16".parse()?;
+    /// assert!(network.is_subnet_of("10.1.9.32/8".parse()?));
+    /// assert!(!network.is_subnet_of("10.1.0.0/17".parse()?));
+    /// # Ok::<(), Box<dyn std::error::Error>>(())
+    /// ```
+    #[inline]
+    #[must_use]
+    pub const fn is_subnet_of(self, other: Self) -> bool {
+        (other.prefix() <= self.prefix()) & other.contains(self.ip())
+    }
+
+    /// Returns `true` if each address of `other` is also in this network. Host bits make no
+    /// difference.
+    ///
+    /// # Examples
+    ///
+    /// ```
+    /// use fosibegan::Ipv4Network;
+    ///
+    /// let network: Ipv4Network = "10.1.9.32/8".parse()?;
+    /// assert!(network.is_supernet_of("10.1.0.0/16".parse()?));
+    /// assert!(!network.is_supernet_of("11.0.0.0/16".parse()?));
+    /// # Ok::<(), Box<dyn std::error::Error>>(())
+    /// ```
+    #[inline]
+    #[must_use]
+    pub const fn is_supernet_of(self, other: Self) -> bool {
+        other.is_subnet_of(self)
+    }
+
+    /// Returns `true` if some address is in both networks. Host bits make no difference.
+    ///
+    /// Of two networks that overlap, one is a subnet of the other.
+    ///
+    /// # Examples
+    ///
+    /// ```
+    /// use fosibegan::Ipv4Network;
+    ///
+    /// let network: Ipv4Network = "10.1.0.0/16".parse()?;
+    /// assert!(network.overlaps("10.0.0.0/8".parse()?));
+    /// assert!(network.overlaps("10.1.2.0/24".parse()?));
+    /// assert!(!network.overlaps("10.2.0.0/16".parse()?));
+    /// # Ok::<(), Box<dyn std::error::Error>>(())
+    /// ```
+    #[inline]
+    #[must_use]
+    pub const fn overlaps(self, other: Self) -> bool {
+        let wider = if self.prefix() < other.prefix() {
+            self
+        } else {
+            other
+        };
+        wider.contains(self.ip()) & wider.contains(other.ip())
+    }
+
     /// Returns the network with its host bits cleared: the same addresses, under the network's
     /// first address.
     ///

@@ -1,8 +1,7 @@
-//! IPv6 networks: how one is made, and what is asked about its addresses.
+//! IPv6 networks: how one is made, and what it answers about its addresses.
 
 use super::masks::prefix_of_ipv6_mask;
 use crate::{IpNetworkError, Ipv6NetworkIterator};
-use core::cmp::Ordering;
 use core::net::Ipv6Addr;
 use core::ops::RangeInclusive;
 
@@ -33,7 +32,7 @@ use core::ops::RangeInclusive;
 /// assert_eq!(network.to_string(), "2001:db8::1/32");
 /// # Ok::<(), Box<dyn std::error::Error>>(())
 /// ```
-#[derive(Clone, Copy, PartialEq, Eq, Hash)]
+#[derive(Clone, Copy, PartialEq, Eq, Hash, PartialOrd, Ord)]
 pub struct Ipv6Network {
     addr: Ipv6Addr,
     prefix: u8,
@@ -85,6 +84,7 @@ impl Ipv6Network {
     /// assert_eq!(Ipv6Network::new_checked(Ipv6Addr::LOCALHOST, 129), None);
     /// ```
     #[inline]
+    #[must_use]
     pub const fn new_checked(addr: Ipv6Addr, prefix: u8) -> Option<Self> {
         if prefix > Self::WIDTH {
             None
@@ -130,6 +130,7 @@ impl Ipv6Network {
     /// # Ok::<(), Box<dyn std::error::Error>>(())
     /// ```
     #[inline]
+    #[must_use]
     pub const fn ip(&self) -> Ipv6Addr {
         self.addr
     }
@@ -147,6 +148,7 @@ impl Ipv6Network {
     /// # Ok::<(), Box<dyn std::error::Error>>(())
     /// ```
     #[inline]
+    #[must_use]
     pub const fn prefix(&self) -> u8 {
         self.prefix
     }
@@ -163,6 +165,7 @@ impl Ipv6Network {
     /// # Ok::<(), Box<dyn std::error::Error>>(())
     /// ```
     #[inline]
+    #[must_use]
     pub const fn mask(&self) -> Ipv6Addr {
         Ipv6Addr::from_bits(!self.host_bits())
     }
@@ -179,6 +182,7 @@ impl Ipv6Network {
     /// # Ok::<(), Box<dyn std::error::Error>>(())
     /// ```
     #[inline]
+    #[must_use]
     pub const fn network(&self) -> Ipv6Addr {
         Ipv6Addr::from_bits(self.first())
     }
@@ -195,6 +199,7 @@ impl Ipv6Network {
     /// # Ok::<(), Box<dyn std::error::Error>>(())
     /// ```
     #[inline]
+    #[must_use]
     pub const fn broadcast(&self) -> Ipv6Addr {
         Ipv6Addr::from_bits(self.last())
     }
@@ -211,6 +216,7 @@ impl Ipv6Network {
     /// # Ok::<(), Box<dyn std::error::Error>>(())
     /// ```
     #[inline]
+    #[must_use]
     pub const fn range(self) -> RangeInclusive<Ipv6Addr> {
         RangeInclusive::new(self.network(), self.broadcast())
     }
@@ -228,8 +234,10 @@ impl Ipv6Network {
     /// # Ok::<(), Box<dyn std::error::Error>>(())
     /// ```
     #[inline]
+    #[must_use]
     pub const fn contains(&self, addr: Ipv6Addr) -> bool {
-        (self.addr.to_bits() ^ addr.to_bits()) & !self.host_bits() == 0
+        // The bits in which they differ are host bits.
+        self.addr.to_bits() ^ addr.to_bits() <= self.host_bits()
     }
 
     /// Returns the number of addresses in the network.
@@ -246,8 +254,13 @@ impl Ipv6Network {
     /// # Ok::<(), Box<dyn std::error::Error>>(())
     /// ```
     #[inline]
+    #[must_use]
     pub const fn size(&self) -> u128 {
-        self.host_bits().saturating_add(1)
+        if self.prefix == 0 {
+            u128::MAX
+        } else {
+            1 << (Self::WIDTH - self.prefix)
+        }
     }
 
     /// Returns the address number `n` of the network, counted from 0, or `None` if `n` is not less
@@ -267,6 +280,7 @@ impl Ipv6Network {
     /// # Ok::<(), Box<dyn std::error::Error>>(())
     /// ```
     #[inline]
+    #[must_use]
     pub const fn nth(self, n: u128) -> Option<Ipv6Addr> {
         if n < self.size() {
             Some(Ipv6Addr::from_bits(self.first() | n))
@@ -292,62 +306,6 @@ impl Ipv6Network {
     #[inline]
     pub const fn iter(&self) -> Ipv6NetworkIterator {
         Ipv6NetworkIterator::between(self.first(), self.last())
-    }
-
-    /// Returns `true` if each address of this network is also in `other`. Host bits make no
-    /// difference.
-    ///
-    /// # Examples
-    ///
-    /// ```
-    /// use fosibegan::Ipv6Network;
-    ///
-    /// let network: Ipv6Network = "2001:db8::/48".parse()?;
-    /// assert!(network.is_subnet_of("2001:db8::1/32".parse()?));
-    /// assert!(!network.is_subnet_of("2001:db8::/49".parse()?));
-    /// # Ok::<(), Box<dyn std::error::Error>>(())
-    /// ```
-    #[inline]
-    pub const fn is_subnet_of(self, other: Self) -> bool {
-        other.prefix <= self.prefix && other.contains(self.addr)
-    }
-
-    /// Returns `true` if each address of `other` is also in this network. Host bits make no
-    /// difference.
-    ///
-    /// # Examples
-    ///
-    /// ```
-    /// use fosibegan::Ipv6Network;
-    ///
-    /// let network: Ipv6Network = "2001:db8::1/32".parse()?;
-    /// assert!(network.is_supernet_of("2001:db8:1::/48".parse()?));
-    /// assert!(!network.is_supernet_of("2001:db9::/48".parse()?));
-    /// # Ok::<(), Box<dyn std::error::Error>>(())
-    /// ```
-    #[inline]
-    pub const fn is_supernet_of(self, other: Self) -> bool {
-        other.is_subnet_of(self)
-    }
-
-    /// Returns `true` if some address is in both networks. Host bits make no difference.
-    ///
-    /// Of two networks that overlap, one is a subnet of the other.
-    ///
-    /// # Examples
-    ///
-    /// ```
-    /// use fosibegan::Ipv6Network;
-    ///
-    /// let network: Ipv6Network = "2001:db8:1::/48".parse()?;
-    /// assert!(network.overlaps("2001:db8::/32".parse()?));
-    /// assert!(network.overlaps("2001:db8:1:2::/64".parse()?));
-    /// assert!(!network.overlaps("2001:db8:2::/48".parse()?));
-    /// # Ok::<(), Box<dyn std::error::Error>>(())
-    /// ```
-    #[inline]
-    pub const fn overlaps(self, other: Self) -> bool {
-        self.contains(other.addr) || other.contains(self.addr)
     }
 
     /// The network of one address.
@@ -389,21 +347,5 @@ impl Ipv6Network {
     #[inline]
     pub(super) const fn last(self) -> u128 {
         self.addr.to_bits() | self.host_bits()
-    }
-}
-
-impl Ord for Ipv6Network {
-    #[inline]
-    fn cmp(&self, other: &Self) -> Ordering {
-        // As numbers, since std compares the segments of addresses one by one.
-        let by_address = self.addr.to_bits().cmp(&other.addr.to_bits());
-        by_address.then(self.prefix.cmp(&other.prefix))
-    }
-}
-
-impl PartialOrd for Ipv6Network {
-    #[inline]
-    fn partial_cmp(&self, other: &Self) -> Option<Ordering> {
-        Some(self.cmp(other))
     }
 }

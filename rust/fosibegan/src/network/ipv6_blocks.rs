@@ -7,6 +7,70 @@ use core::net::Ipv6Addr;
 use core::ops::RangeInclusive;
 
 impl Ipv6Network {
+    /// Returns `true` if each address of this network is also in `other`. Host bits make no
+    /// difference.
+    ///
+    /// # Examples
+    ///
+    /// ```
+    /// use fosibegan::Ipv6Network;
+    ///
+    /// let network: Ipv6Network = "2001:db8::/48".parse()?;
+    /// assert!(network.is_subnet_of("2001:db8::1/32".parse()?));
+    /// assert!(!network.is_subnet_of("2001:db8::/49".parse()?));
+    /// # Ok::<(), Box<dyn std::error::Error>>(())
+    /// ```
+    #[inline]
+    #[must_use]
+    pub const fn is_subnet_of(self, other: Self) -> bool {
+        (other.prefix() <= self.prefix()) & other.contains(self.ip())
+    }
+
+    /// Returns `true` if each address of `other` is also in this network. Host bits make no
+    /// difference.
+    ///
+    /// # Examples
+    ///
+    /// ```
+    /// use fosibegan::Ipv6Network;
+    ///
+    /// let network: Ipv6Network = "2001:db8::1/32".parse()?;
+    /// assert!(network.is_supernet_of("2001:db8:1::/48".parse()?));
+    /// assert!(!network.is_supernet_of("2001:db9::/48".parse()?));
+    /// # Ok::<(), Box<dyn std::error::Error>>(())
+    /// ```
+    #[inline]
+    #[must_use]
+    pub const fn is_supernet_of(self, other: Self) -> bool {
+        other.is_subnet_of(self)
+    }
+
+    /// Returns `true` if some address is in both networks. Host bits make no difference.
+    ///
+    /// Of two networks that overlap, one is a subnet of the other.
+    ///
+    /// # Examples
+    ///
+    /// ```
+    /// use fosibegan::Ipv6Network;
+    ///
+    /// let network: Ipv6Network = "2001:db8:1::/48".parse()?;
+    /// assert!(network.overlaps("2001:db8::/32".parse()?));
+    /// assert!(network.overlaps("2001:db8:1:2::/64".parse()?));
+    /// assert!(!network.overlaps("2001:db8:2::/48".parse()?));
+    /// # Ok::<(), Box<dyn std::error::Error>>(())
+    /// ```
+    #[inline]
+    #[must_use]
+    pub const fn overlaps(self, other: Self) -> bool {
+        let wider = if self.prefix() < other.prefix() {
+            self
+        } else {
+            other
+        };
+        wider.contains(self.ip()) & wider.contains(other.ip())
+    }
+
     /// Returns the network with its host bits cleared: the same addresses, under the network's
     /// first address.
     ///

@@ -80,27 +80,25 @@ pub(super) const fn prefix_of_ip_mask(mask: IpAddr) -> Option<u8> {
     }
 }
 
-/// The prefix length of a mask, if this address is one: if all of its bits are either leading ones
-/// or trailing zeros.
+/// The prefix length of a mask, if this address is one: if one more than its host bits, which are
+/// ones at the end of a number, has none of them.
 #[allow(clippy::cast_possible_truncation)]
 pub(super) const fn prefix_of_ipv4_mask(mask: Ipv4Addr) -> Option<u8> {
-    let bits = mask.to_bits();
-    let ones = bits.leading_ones();
-    if ones + bits.trailing_zeros() == u32::BITS {
-        Some(ones as u8)
+    let host_bits = !mask.to_bits();
+    if host_bits & host_bits.wrapping_add(1) == 0 {
+        Some(host_bits.leading_zeros() as u8)
     } else {
         None
     }
 }
 
-/// The prefix length of a mask, if this address is one: if all of its bits are either leading ones
-/// or trailing zeros.
+/// The prefix length of a mask, if this address is one: if one more than its host bits, which are
+/// ones at the end of a number, has none of them.
 #[allow(clippy::cast_possible_truncation)]
 pub(super) const fn prefix_of_ipv6_mask(mask: Ipv6Addr) -> Option<u8> {
-    let bits = mask.to_bits();
-    let ones = bits.leading_ones();
-    if ones + bits.trailing_zeros() == u128::BITS {
-        Some(ones as u8)
+    let host_bits = !mask.to_bits();
+    if host_bits & host_bits.wrapping_add(1) == 0 {
+        Some(host_bits.leading_zeros() as u8)
     } else {
         None
     }

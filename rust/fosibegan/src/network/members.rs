@@ -30,7 +30,7 @@ macro_rules! family {
             #[inline]
             fn next(&mut self) -> Option<$address> {
                 let first = self.next?;
-                self.next = if first < self.end { Some(first + 1) } else { None };
+                self.next = if first == self.end { None } else { Some(first + 1) };
                 Some($address::from_bits(first))
             }
 
@@ -74,10 +74,10 @@ macro_rules! family {
             #[inline]
             fn next_back(&mut self) -> Option<$address> {
                 let (first, last) = (self.next?, self.end);
-                if first < last {
-                    self.end = last - 1;
-                } else {
+                if first == last {
                     self.next = None;
+                } else {
+                    self.end = last - 1;
                 }
                 Some($address::from_bits(last))
             }

@@ -10,8 +10,10 @@ use proptest::strategy::{BoxedStrategy, Just, Strategy};
 #[derive(Clone, Copy, Debug)]
 enum Bits {
     Kept,
-    NoHostBits,
-    AllHostBits,
+    /// Host bits that are zeros.
+    First,
+    /// Host bits that are ones.
+    Last,
     Zeros,
     Ones,
 }
@@ -21,8 +23,8 @@ enum Bits {
 fn bits() -> impl Strategy<Value = Bits> {
     prop_oneof![
         4 => Just(Bits::Kept),
-        1 => Just(Bits::NoHostBits),
-        1 => Just(Bits::AllHostBits),
+        1 => Just(Bits::First),
+        1 => Just(Bits::Last),
         1 => Just(Bits::Zeros),
         1 => Just(Bits::Ones),
     ]
@@ -43,8 +45,8 @@ macro_rules! arbitrary {
                             let network = Self::new_checked($address::from_bits(number), prefix)?;
                             Some(network.with_ip(match bits {
                                 Bits::Kept => number,
-                                Bits::NoHostBits => network.first(),
-                                Bits::AllHostBits => network.last(),
+                                Bits::First => network.first(),
+                                Bits::Last => network.last(),
                                 Bits::Zeros => $number::MIN,
                                 Bits::Ones => $number::MAX,
                             }))

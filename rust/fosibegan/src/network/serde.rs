@@ -12,7 +12,7 @@ use serde::ser::{Serialize, Serializer};
 /// A network that is read from bytes.
 trait OfBytes: Sized {
     /// What the bytes should be.
-    const EXPECTED: &str;
+    const EXPECTED: &'static str;
 
     /// The network of these bytes, unless they are too few or too many, or the prefix length is too
     /// great.
@@ -20,7 +20,8 @@ trait OfBytes: Sized {
 }
 
 impl OfBytes for Ipv4Network {
-    const EXPECTED: &str = "the 4 bytes of an IPv4 address and a prefix length of at most 32";
+    const EXPECTED: &'static str =
+        "the 4 bytes of an IPv4 address and a prefix length of at most 32";
 
     fn of_bytes(bytes: &[u8]) -> Option<Self> {
         let [octets @ .., prefix]: [u8; 5] = bytes.try_into().ok()?;
@@ -29,7 +30,8 @@ impl OfBytes for Ipv4Network {
 }
 
 impl OfBytes for Ipv6Network {
-    const EXPECTED: &str = "the 16 bytes of an IPv6 address and a prefix length of at most 128";
+    const EXPECTED: &'static str =
+        "the 16 bytes of an IPv6 address and a prefix length of at most 128";
 
     fn of_bytes(bytes: &[u8]) -> Option<Self> {
         let [octets @ .., prefix]: [u8; 17] = bytes.try_into().ok()?;
@@ -38,7 +40,8 @@ impl OfBytes for Ipv6Network {
 }
 
 impl OfBytes for IpNetwork {
-    const EXPECTED: &str = "the 4 or 16 bytes of an IP address and a prefix length of its family";
+    const EXPECTED: &'static str =
+        "the 4 or 16 bytes of an IP address and a prefix length of its family";
 
     fn of_bytes(bytes: &[u8]) -> Option<Self> {
         let v4 = Ipv4Network::of_bytes(bytes).map(Self::V4);
