@@ -312,7 +312,7 @@ fn many_questions<N: Tested>(is_v6: bool, first: u128) {
     let mut model = Model::default();
     for value in 0..300 {
         let prefix = if value < 4 {
-            value as u64 * 4
+            value * 4
         } else {
             u64::from(width) - random.below(17)
         };

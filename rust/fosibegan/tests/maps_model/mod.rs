@@ -163,7 +163,7 @@ impl Space {
             Space::Whole => match random.below(4) {
                 0 => random.wide() & greatest,
                 1 => (0x5a5a << (width(is_v6) - 16)) | low,
-                2 => greatest / 3 ^ (1 << random.below(u64::from(width(is_v6)))),
+                2 => (greatest / 3) ^ (1 << random.below(u64::from(width(is_v6)))),
                 _ => greatest / 3,
             },
         }
