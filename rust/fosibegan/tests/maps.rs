@@ -233,6 +233,9 @@ fn frozen_answers<N: Tested>(seed: u64) {
         let count = random.below(200) * random.below(2);
         let Pair { map, mut model } = some::<N>(space, &mut random, count);
         let mut frozen: FrozenMap<N, u64> = map.freeze();
+        if random.below(2) == 0 {
+            frozen = frozen.clone();
+        }
         let mut addrs = Vec::new();
         let mut expected = Vec::new();
         for _ in 0..150 {
