@@ -18,12 +18,14 @@ mod parts;
 mod proptest;
 #[cfg(feature = "serde")]
 mod serde;
+mod slot;
 
-pub use entry::{Entry, OccupiedEntry, VacantEntry};
+pub use entry::Entry;
 pub use frozen::FrozenMap;
 pub use into_iter::{IntoIter, IntoKeys, IntoValues};
 pub use iter::{CoveredBy, Covering, Iter, Keys, Values};
 pub use iter_mut::{IterMut, ValuesMut};
+pub use slot::{OccupiedEntry, VacantEntry};
 
 use crate::IpNetwork;
 use parts::Tables;
@@ -115,6 +117,8 @@ impl<V> PrefixMap<IpNetwork, V> {
     ///
     /// For a map of one family use [`default`](Default::default).
     ///
+    /// # Examples
+    ///
     /// ```
     /// use fosibegan::{Ipv6Network, PrefixMap};
     ///
@@ -145,6 +149,8 @@ impl<N, V> Default for PrefixMap<N, V> {
 impl<N, V> PrefixMap<N, V> {
     /// Returns the number of networks in the map.
     ///
+    /// # Examples
+    ///
     /// ```
     /// use fosibegan::PrefixMap;
     ///
@@ -162,6 +168,8 @@ impl<N, V> PrefixMap<N, V> {
 
     /// Returns whether the map has no network.
     ///
+    /// # Examples
+    ///
     /// ```
     /// use fosibegan::PrefixMap;
     ///
@@ -178,6 +186,8 @@ impl<N, V> PrefixMap<N, V> {
     }
 
     /// Removes all networks and their values.
+    ///
+    /// # Examples
     ///
     /// ```
     /// use fosibegan::PrefixMap;

@@ -12,6 +12,8 @@ impl<N: Network, V> PrefixMap<N, V> {
     ///
     /// Panics if the map already has 2³² networks of this family and not this one.
     ///
+    /// # Examples
+    ///
     /// ```
     /// use fosibegan::PrefixMap;
     ///
@@ -27,6 +29,8 @@ impl<N: Network, V> PrefixMap<N, V> {
 
     /// Returns the entry of a network, to look at its value, to change it, or to insert one if the
     /// network has none.
+    ///
+    /// # Examples
     ///
     /// ```
     /// use fosibegan::PrefixMap;
@@ -44,6 +48,8 @@ impl<N: Network, V> PrefixMap<N, V> {
 
     /// Removes exactly this network, and returns its value.
     ///
+    /// # Examples
+    ///
     /// ```
     /// use fosibegan::PrefixMap;
     ///
@@ -59,6 +65,8 @@ impl<N: Network, V> PrefixMap<N, V> {
     }
 
     /// Removes the first network in order, and returns it with its value.
+    ///
+    /// # Examples
     ///
     /// ```
     /// use fosibegan::PrefixMap;
@@ -76,6 +84,8 @@ impl<N: Network, V> PrefixMap<N, V> {
 
     /// Removes the last network in order, and returns it with its value.
     ///
+    /// # Examples
+    ///
     /// ```
     /// use fosibegan::PrefixMap;
     ///
@@ -92,6 +102,8 @@ impl<N: Network, V> PrefixMap<N, V> {
 
     /// Keeps the entries for which the closure returns `true`, and removes the others. They are
     /// visited in order.
+    ///
+    /// # Examples
     ///
     /// ```
     /// use fosibegan::PrefixMap;
@@ -112,6 +124,8 @@ impl<N: Network, V> PrefixMap<N, V> {
     ///
     /// The call lists and sorts references to all values; to change a few, use
     /// [`get_mut`](Self::get_mut).
+    ///
+    /// # Examples
     ///
     /// ```
     /// use fosibegan::PrefixMap;
@@ -135,6 +149,8 @@ impl<N: Network, V> PrefixMap<N, V> {
     ///
     /// It costs as much as [`iter_mut`](Self::iter_mut).
     ///
+    /// # Examples
+    ///
     /// ```
     /// use fosibegan::PrefixMap;
     ///
@@ -151,6 +167,8 @@ impl<N: Network, V> PrefixMap<N, V> {
     }
 
     /// Turns the map into an iterator over its networks, in order.
+    ///
+    /// # Examples
     ///
     /// ```
     /// use fosibegan::PrefixMap;
@@ -169,6 +187,8 @@ impl<N: Network, V> PrefixMap<N, V> {
     }
 
     /// Turns the map into an iterator over its values, in the order of their networks.
+    ///
+    /// # Examples
     ///
     /// ```
     /// use fosibegan::PrefixMap;
@@ -189,6 +209,8 @@ impl<N: Network, V> PrefixMap<N, V> {
     ///
     /// The values stay where they are. It takes about as long as it takes to insert a few percent
     /// of the networks.
+    ///
+    /// # Examples
     ///
     /// ```
     /// use fosibegan::PrefixMap;

@@ -49,6 +49,8 @@ impl<N, V> Default for FrozenMap<N, V> {
 impl<N, V> FrozenMap<N, V> {
     /// Returns the number of networks in the map.
     ///
+    /// # Examples
+    ///
     /// ```
     /// use fosibegan::{FrozenMap, Ipv4Network};
     ///
@@ -63,6 +65,8 @@ impl<N, V> FrozenMap<N, V> {
     }
 
     /// Returns whether the map has no network.
+    ///
+    /// # Examples
     ///
     /// ```
     /// use fosibegan::{FrozenMap, Ipv4Network};
@@ -81,6 +85,8 @@ impl<N: Network, V> FrozenMap<N, V> {
     ///
     /// Pass `addr.to_canonical()` if the address may be an IPv4-mapped one.
     ///
+    /// # Examples
+    ///
     /// ```
     /// use fosibegan::{FrozenMap, IpNetwork};
     /// use std::net::IpAddr;
@@ -94,12 +100,15 @@ impl<N: Network, V> FrozenMap<N, V> {
     /// # Ok::<(), Box<dyn std::error::Error>>(())
     /// ```
     #[inline]
+    #[must_use]
     pub fn longest_match(&self, addr: N::Addr) -> Option<(N, &V)> {
         self.parts.longest_match(addr)
     }
 
     /// Returns the longest network in the map that contains the address, and its value, to be
     /// changed.
+    ///
+    /// # Examples
     ///
     /// ```
     /// use fosibegan::{FrozenMap, Ipv4Network};
@@ -121,6 +130,8 @@ impl<N: Network, V> FrozenMap<N, V> {
     /// # Panics
     ///
     /// Panics if there are not as many answers as addresses.
+    ///
+    /// # Examples
     ///
     /// ```
     /// use fosibegan::{FrozenMap, Ipv4Network};
@@ -145,6 +156,8 @@ impl<N: Network, V> FrozenMap<N, V> {
 
     /// Returns the value of exactly this network.
     ///
+    /// # Examples
+    ///
     /// ```
     /// use fosibegan::{FrozenMap, Ipv4Network};
     ///
@@ -154,11 +167,14 @@ impl<N: Network, V> FrozenMap<N, V> {
     /// # Ok::<(), Box<dyn std::error::Error>>(())
     /// ```
     #[inline]
+    #[must_use]
     pub fn get(&self, network: N) -> Option<&V> {
         self.parts.get(network)
     }
 
     /// Returns the value of exactly this network, to be changed.
+    ///
+    /// # Examples
     ///
     /// ```
     /// use fosibegan::{FrozenMap, Ipv4Network};
@@ -177,6 +193,8 @@ impl<N: Network, V> FrozenMap<N, V> {
 
     /// Returns whether exactly this network has a value.
     ///
+    /// # Examples
+    ///
     /// ```
     /// use fosibegan::{FrozenMap, Ipv4Network};
     ///
@@ -193,6 +211,8 @@ impl<N: Network, V> FrozenMap<N, V> {
 
     /// Returns an iterator over the networks in the map that contain a network or an address, with
     /// their values: the shortest first. It is that of [`PrefixMap::covering`].
+    ///
+    /// # Examples
     ///
     /// ```
     /// use fosibegan::{FrozenMap, Ipv4Network};
@@ -213,6 +233,8 @@ impl<N: Network, V> FrozenMap<N, V> {
     /// Returns an iterator over the networks in the map that a network contains, with their values,
     /// in order. It is that of [`PrefixMap::covered_by`].
     ///
+    /// # Examples
+    ///
     /// ```
     /// use fosibegan::{FrozenMap, Ipv4Network};
     ///
@@ -231,6 +253,8 @@ impl<N: Network, V> FrozenMap<N, V> {
 
     /// Returns an iterator over the networks and their values, in the order of [`PrefixMap::iter`].
     ///
+    /// # Examples
+    ///
     /// ```
     /// use fosibegan::{FrozenMap, Ipv4Network};
     ///
@@ -245,6 +269,8 @@ impl<N: Network, V> FrozenMap<N, V> {
     }
 
     /// Returns an iterator over the networks and their values, in order, to change the values.
+    ///
+    /// # Examples
     ///
     /// ```
     /// use fosibegan::{FrozenMap, Ipv4Network};
@@ -264,6 +290,8 @@ impl<N: Network, V> FrozenMap<N, V> {
 
     /// Returns an iterator over the networks, in order.
     ///
+    /// # Examples
+    ///
     /// ```
     /// use fosibegan::{FrozenMap, Ipv4Network};
     ///
@@ -278,6 +306,8 @@ impl<N: Network, V> FrozenMap<N, V> {
     }
 
     /// Returns an iterator over the values, in the order of their networks.
+    ///
+    /// # Examples
     ///
     /// ```
     /// use fosibegan::{FrozenMap, Ipv4Network};
@@ -294,6 +324,8 @@ impl<N: Network, V> FrozenMap<N, V> {
 
     /// Returns an iterator over the values, in the order of their networks, to change them.
     ///
+    /// # Examples
+    ///
     /// ```
     /// use fosibegan::{FrozenMap, Ipv4Network};
     ///
@@ -309,6 +341,8 @@ impl<N: Network, V> FrozenMap<N, V> {
     }
 
     /// Turns the map into one that networks can be added to and removed from. Nothing is copied.
+    ///
+    /// # Examples
     ///
     /// ```
     /// use fosibegan::{FrozenMap, Ipv4Network};
@@ -333,6 +367,8 @@ impl<V> FrozenMap<IpNetwork, V> {
     /// there is none, that of the IPv6 address as it stands. For every other address it is that of
     /// [`longest_match`](Self::longest_match).
     ///
+    /// # Examples
+    ///
     /// ```
     /// use fosibegan::{FrozenMap, IpNetwork};
     ///
@@ -345,6 +381,7 @@ impl<V> FrozenMap<IpNetwork, V> {
     /// # Ok::<(), Box<dyn std::error::Error>>(())
     /// ```
     #[inline]
+    #[must_use]
     pub fn longest_match_mapped(&self, addr: IpAddr) -> Option<(IpNetwork, &V)> {
         self.parts.longest_match_mapped(addr)
     }

@@ -10,6 +10,8 @@ impl<N: Network, V> PrefixMap<N, V> {
     /// Host bits are cleared first. For the value that holds for an address, see
     /// [`longest_match`](Self::longest_match).
     ///
+    /// # Examples
+    ///
     /// ```
     /// use fosibegan::PrefixMap;
     ///
@@ -21,11 +23,14 @@ impl<N: Network, V> PrefixMap<N, V> {
     /// # Ok::<(), Box<dyn std::error::Error>>(())
     /// ```
     #[inline]
+    #[must_use]
     pub fn get(&self, network: N) -> Option<&V> {
         self.parts.get(network)
     }
 
     /// Returns the value of exactly this network, to be changed.
+    ///
+    /// # Examples
     ///
     /// ```
     /// use fosibegan::PrefixMap;
@@ -44,6 +49,8 @@ impl<N: Network, V> PrefixMap<N, V> {
     }
 
     /// Returns whether exactly this network has a value.
+    ///
+    /// # Examples
     ///
     /// ```
     /// use fosibegan::PrefixMap;
@@ -66,6 +73,8 @@ impl<N: Network, V> PrefixMap<N, V> {
     /// An address of one family is in no network of the other. Pass `addr.to_canonical()` if the
     /// address may be an IPv4-mapped one, as those of clients are on a socket of both families.
     ///
+    /// # Examples
+    ///
     /// ```
     /// use fosibegan::PrefixMap;
     /// use std::net::IpAddr;
@@ -81,12 +90,15 @@ impl<N: Network, V> PrefixMap<N, V> {
     /// # Ok::<(), Box<dyn std::error::Error>>(())
     /// ```
     #[inline]
+    #[must_use]
     pub fn longest_match(&self, addr: N::Addr) -> Option<(N, &V)> {
         self.parts.longest_match(addr)
     }
 
     /// Returns the longest network in the map that contains the address, and its value, to be
     /// changed.
+    ///
+    /// # Examples
     ///
     /// ```
     /// use fosibegan::PrefixMap;
@@ -112,6 +124,8 @@ impl<N: Network, V> PrefixMap<N, V> {
     ///
     /// The network itself is among them if the map has it. Each step searches the map for one
     /// prefix length that some key has, so reading only the first or the last one is cheap.
+    ///
+    /// # Examples
     ///
     /// ```
     /// use fosibegan::PrefixMap;
@@ -139,6 +153,8 @@ impl<N: Network, V> PrefixMap<N, V> {
     /// The network itself is the first if the map has it. The other entries of the map are not
     /// visited.
     ///
+    /// # Examples
+    ///
     /// ```
     /// use fosibegan::PrefixMap;
     ///
@@ -160,6 +176,8 @@ impl<N: Network, V> PrefixMap<N, V> {
 
     /// Returns the first network in order, and its value.
     ///
+    /// # Examples
+    ///
     /// ```
     /// use fosibegan::PrefixMap;
     ///
@@ -169,11 +187,14 @@ impl<N: Network, V> PrefixMap<N, V> {
     /// assert_eq!(map.first_key_value(), Some(("10.0.0.0/8".parse()?, &1)));
     /// # Ok::<(), Box<dyn std::error::Error>>(())
     /// ```
+    #[must_use]
     pub fn first_key_value(&self) -> Option<(N, &V)> {
         self.iter().next()
     }
 
     /// Returns the last network in order, and its value.
+    ///
+    /// # Examples
     ///
     /// ```
     /// use fosibegan::PrefixMap;
@@ -184,12 +205,15 @@ impl<N: Network, V> PrefixMap<N, V> {
     /// assert_eq!(map.last_key_value(), Some(("10.1.0.0/16".parse()?, &2)));
     /// # Ok::<(), Box<dyn std::error::Error>>(())
     /// ```
+    #[must_use]
     pub fn last_key_value(&self) -> Option<(N, &V)> {
         self.iter().next_back()
     }
 
     /// Returns an iterator over the networks and their values, in order: IPv4 before IPv6, lower
     /// addresses first, and a network before the smaller networks that it contains.
+    ///
+    /// # Examples
     ///
     /// ```
     /// use fosibegan::PrefixMap;
@@ -214,6 +238,8 @@ impl<N: Network, V> PrefixMap<N, V> {
 
     /// Returns an iterator over the networks, in order.
     ///
+    /// # Examples
+    ///
     /// ```
     /// use fosibegan::PrefixMap;
     ///
@@ -232,6 +258,8 @@ impl<N: Network, V> PrefixMap<N, V> {
     }
 
     /// Returns an iterator over the values, in the order of their networks.
+    ///
+    /// # Examples
     ///
     /// ```
     /// use fosibegan::PrefixMap;
@@ -256,6 +284,8 @@ impl<V> PrefixMap<IpNetwork, V> {
     /// there is none, that of the IPv6 address as it stands. For every other address it is that of
     /// [`longest_match`](Self::longest_match).
     ///
+    /// # Examples
+    ///
     /// ```
     /// use fosibegan::PrefixMap;
     ///
@@ -270,6 +300,7 @@ impl<V> PrefixMap<IpNetwork, V> {
     /// # Ok::<(), Box<dyn std::error::Error>>(())
     /// ```
     #[inline]
+    #[must_use]
     pub fn longest_match_mapped(&self, addr: IpAddr) -> Option<(IpNetwork, &V)> {
         self.parts.longest_match_mapped(addr)
     }

@@ -76,10 +76,10 @@ fn block_of<C: IndexedNetwork>(network: C) -> C {
 
 /// The place of an entry that is put behind so many others.
 fn place_behind(count: usize) -> u32 {
-    match u32::try_from(count) {
-        Ok(place) => place,
-        Err(_) => panic!("capacity overflow"),
-    }
+    let Ok(place) = u32::try_from(count) else {
+        panic!("capacity overflow");
+    };
+    place
 }
 
 impl<C, V, P> Part<C, V, P> {
