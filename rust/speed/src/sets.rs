@@ -7,7 +7,9 @@ use fosibegan_core::ipnetwork_addr as core_addr;
 use fosibegan_core::plain_std::alloc::Global;
 use fosibegan_core::plain_std::vec::Vec as CoreVec;
 use fosibegan_core::{AddressIndex, AddressSet as CoreSet};
+use std::hint::black_box;
 use std::net::{IpAddr, Ipv4Addr, Ipv6Addr};
+use std::time::Instant;
 
 type Core4 = fosibegan_core::Ipv4Network;
 type Core6 = fosibegan_core::Ipv6Network;
@@ -16,6 +18,9 @@ const OURS: &str = "fosibegan";
 const CORE: &str = "core";
 /// How many addresses are asked for.
 const ASKED: usize = 4096;
+/// How many networks sets are made of.
+const FEW: usize = 10_000;
+const MANY: usize = 400_000;
 
 /// Networks of IPv4 routes, and addresses of which about half lie in one.
 pub fn v4(count: usize) -> (Vec<Ipv4Network>, Vec<Ipv4Addr>) {
@@ -173,28 +178,31 @@ fn making<'a>(calls: &mut Vec<Call<'a>>, count: usize) {
         networks.iter().for_each(|network| builder.insert(*network));
         builder.build().len() as u64
     }));
-    calls.push(Call::new(&name("single inserts"), OURS, count, move || {
-        let mut set = AddressSet::<Ipv4Network>::default();
-        networks
-            .iter()
-            .for_each(|network| drop(set.insert(*network)));
-        set.len() as u64
-    }));
-    if count <= 10_000 {
+    if count <= FEW {
+        calls.push(Call::new(&name("single inserts"), OURS, count, move || {
+            inserted(networks)
+        }));
         calls.push(Call::new(&name("single inserts"), CORE, count, move || {
             let mut set = CoreSet::from_networks(CoreVec::new(Global));
             core.iter()
-                .for_each(|network| drop(set.insert(*network).expect("memory")));
+                .for_each(|network| _ = set.insert(*network).expect("memory"));
             set.blocks().len() as u64
         }));
     }
 }
 
+/// The length of the set that these networks make, one inserted after the other.
+fn inserted(networks: &[Ipv4Network]) -> u64 {
+    let mut set = AddressSet::<Ipv4Network>::default();
+    networks.iter().for_each(|network| _ = set.insert(*network));
+    set.len() as u64
+}
+
 /// Measures them, and prints what they take.
 pub fn sets(passes: usize) {
     let mut calls = Vec::new();
-    let (of_v4, asked_v4) = v4(10_000);
-    let (of_v6, asked_v6) = v6(10_000);
+    let (of_v4, asked_v4) = v4(FEW);
+    let (of_v6, asked_v6) = v6(FEW);
     let (asked_v4, asked_v6): (&'static [_], &'static [_]) = (asked_v4.leak(), asked_v6.leak());
     ours(&mut calls, "IPv4", &of_v4, asked_v4);
     core_calls!(calls, "IPv4", of_v4, asked_v4);
@@ -221,4 +229,11 @@ pub fn sets(passes: usize) {
         making(&mut calls, count);
         compare(&mut calls, passes, &[OURS, CORE], CORE, &[]);
     }
+    let (many, _) = v4(MANY);
+    let start = Instant::now();
+    black_box(inserted(&many));
+    println!(
+        "{MANY} single inserts: {:.2} s",
+        start.elapsed().as_secs_f64()
+    );
 }
