@@ -1,6 +1,7 @@
 """The part of `bench/all` on the calls of the library, from each language, beside the peers of that language."""
 
 import os
+import pathlib
 import re
 import shutil
 import subprocess
@@ -84,6 +85,10 @@ def from_c(run, rows):
     return [f"From C, `ipnetwork_v4_ranges_place` of one address {figure(own.get('ipnetwork_v4_ranges_place'))}."]
 
 
+# What a line of a program that measures calls from Rust has.
+RUST_TIME = re.compile(r"^(\w+), (IPv.), (this crate|plain Rust) +([\d.]+) ns$", re.M)
+
+
 def rust_times(run, name, source, *more):
     """What calls take by this crate under the name `ipnetwork`, and by plain Rust over std::net."""
     library, speed = run.folder / f"lib{name}.rlib", run.folder / f"speed_of_{name}"
@@ -93,11 +98,17 @@ def rust_times(run, name, source, *more):
     said([*crate, source / "src/lib.rs", *more])
     where = ["--extern", f"ipnetwork={library}", "-L", run.folder]
     said([*RUSTC, *where, "-o", speed, TOP / "rust/patched/plain/examples/speed.rs"])
-    row = re.compile(r"^(\w+), (IPv.), (this crate|plain Rust) +([\d.]+) ns$", re.M)
     times = {which: {} for which in ("this crate", "plain Rust")}
-    for call, family, which, time in row.findall(said([speed])):
+    for call, family, which, time in RUST_TIME.findall(said([speed])):
         times[which][call, family] = float(time)
     return times
+
+
+def front_times(run, below):
+    """What questions to sets and maps of the crate fosibegan take."""
+    speed = run.folder / "speed_of_front"
+    said([*RUSTC, *below, "-o", speed, TOP / "bench/front.rs"])
+    return {(call, family): float(time) for call, family, _, time in RUST_TIME.findall(said([speed]))}
 
 
 def from_rust(run, rows):
@@ -111,16 +122,24 @@ def from_rust(run, rows):
         below += ["--extern", f"{name}={run.folder}/lib{name}.rlib"]
     ours = rust_times(run, "ours", TOP / "rust/ipnetwork", *below)
     own, plain = ours["this crate"], ours["plain Rust"]
-    rows.add_own("Rust", {column: own.get(call) for column, call in calls.items()})
+    front = front_times(run, below)
+    rows.add_own("Rust, not frozen", {"set": front["set", "IPv4"], "find": front["map", "IPv4"]})
+    columns = {"set": ("frozen_set", "IPv4"), "set_column4": ("set_column", "IPv4"), "set_column6": ("set_column", "IPv6"),
+               "find": ("frozen_map", "IPv4"), "find_column": ("map_column", "IPv4")}
+    own_calls = {column: own.get(call) for column, call in calls.items()}
+    rows.add_own("Rust", own_calls | {column: front[call] for column, call in columns.items()})
     rows.add_peer("`std::net`", {column: plain.get(call) for column, call in calls.items()})
-    sources = sorted(REGISTRY.glob("ipnetwork-*"))
+    # A folder with the sources of the crate takes the place of Debian's, which are of 2020.
+    given = os.environ.get("IPNETWORK_UPSTREAM")
+    sources = [pathlib.Path(given)] if given else sorted(REGISTRY.glob("ipnetwork-*"))
+    run.without("a prefix trie in Rust (no package of Debian)")
     if not sources:
-        run.without("the Rust crate ipnetwork (Debian: librust-ipnetwork-dev)")
+        run.without("the Rust crate ipnetwork (IPNETWORK_UPSTREAM, or Debian: librust-ipnetwork-dev)")
         return []
     crate = rust_times(run, "theirs", sources[0])["this crate"]
-    version = sources[0].name.partition("-")[2]
+    version = re.search(r'^version = "(.*)"$', (sources[0] / "Cargo.toml").read_text(), re.M)[1]
     if not version.startswith("0.21"):
-        run.without("version 0.21.1 of the crate ipnetwork, a prefix trie in Rust (no packages of Debian)")
+        run.without("version 0.21.1 of the crate ipnetwork (IPNETWORK_UPSTREAM)")
     rows.add_peer(f"the crate `ipnetwork` {version}", {column: crate.get(call) for column, call in calls.items()})
     parts = []
     for call in ("network", "broadcast"):

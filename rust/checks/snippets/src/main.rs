@@ -24,12 +24,19 @@ macro_rules! show {
 
 /// What was printed for debugging, with the text of each network that names its parts there.
 fn as_texts(mut printed: String) -> String {
-    for (start, variant) in [("Ipv4Network { addr: ", "V4("), ("Ipv6Network { addr: ", "V6(")] {
+    for (start, variant) in [
+        ("Ipv4Network { addr: ", "V4("),
+        ("Ipv6Network { addr: ", "V6("),
+    ] {
         while let Some(from) = printed.find(start) {
             let to = from + printed[from..].find(" }").expect("a struct has an end");
             let text = printed[from + start.len()..to].replace(", prefix: ", "/");
             let of_either = printed[..from].ends_with(variant);
-            let all = if of_either { from - variant.len()..to + 3 } else { from..to + 2 };
+            let all = if of_either {
+                from - variant.len()..to + 3
+            } else {
+                from..to + 2
+            };
             printed.replace_range(all, &text);
         }
     }
@@ -479,7 +486,9 @@ where
 }
 
 fn any_has(networks: impl IntoIterator<Item = impl Into<IpNetwork>>, address: IpAddr) -> bool {
-    networks.into_iter().any(|network| network.into().contains(address))
+    networks
+        .into_iter()
+        .any(|network| network.into().contains(address))
 }
 
 static KNOWN: OnceLock<Vec<IpNetwork>> = OnceLock::new();

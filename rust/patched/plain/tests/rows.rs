@@ -143,8 +143,11 @@ fn members_at_the_ends() {
     );
     assert_eq!(all.nth(4_294_967_295), None);
     let mut members = all.iter();
-    assert_eq!(members.nth(4_294_967_294).map(u32::from), Some(u32::MAX - 1));
-    assert_eq!(members.clone().nth(0), Some(Ipv4Addr::BROADCAST));
+    assert_eq!(
+        members.nth(4_294_967_294).map(u32::from),
+        Some(u32::MAX - 1)
+    );
+    assert_eq!(members.clone().next(), Some(Ipv4Addr::BROADCAST));
     assert_eq!(members.nth(1), None);
     assert_eq!(all.iter().next_back(), Some(Ipv4Addr::BROADCAST));
     let mut end = v4("255.255.255.0/24").iter();

@@ -11,10 +11,11 @@ const COUNT: usize = 4096;
 const RUNS: usize = 100;
 const TRIES: usize = 7;
 
-struct Random(u64);
+/// Random numbers, the same in every run.
+pub struct Random(pub u64);
 
 impl Random {
-    fn next(&mut self) -> u64 {
+    pub fn next(&mut self) -> u64 {
         self.0 ^= self.0 >> 12;
         self.0 ^= self.0 << 25;
         self.0 ^= self.0 >> 27;
