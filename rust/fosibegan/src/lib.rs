@@ -83,17 +83,18 @@
 //! # How far to trust it
 //!
 //! * **Made of proved sources, and tested:** the crate `fosibegan_core` reads and prints networks,
-//!   and has the sets, the maps, the indexes, blocks and aggregation. It is what remains of a library
-//!   with contracts once the contracts are removed. That library is proved: a machine has checked
-//!   that each function meets its contract. What `rustc` builds from it here is not proved.
+//!   and has the sets, the longest match, the indexes, blocks and aggregation. It is what remains of
+//!   a library with contracts once the contracts are removed. That library is proved: a machine has
+//!   checked that each function meets its contract. What `rustc` builds from it here is not proved.
 //! * **Written by hand, and tested:** this crate, which gives those answers the types and traits of
 //!   `std`. Questions about one network are answered here, so that they are `const` and need no
 //!   conversion: `new`, `new_checked`, `with_netmask`, `ip`, `prefix`, `mask`, `network`, `broadcast`,
 //!   `range`, `contains`, `size`, `nth`, `is_subnet_of`, `is_supernet_of`, `overlaps`, `block`,
 //!   `supernet`, `next`, `previous`, comparisons, and the prefix lengths of masks. A test compares
 //!   each with the core, at every prefix length, at both ends of the address space, and on ten
-//!   million random pairs. So are the addresses of `iter` and `hosts`, which tests compare with lists
-//!   of addresses. Sets and maps are compared with a `BTreeSet` of addresses and with linear searches.
+//!   million random pairs. The addresses of `iter` and `hosts`, and the values and the order of maps,
+//!   are handled here too. Tests compare them, and sets, with a `BTreeSet` of addresses and with
+//!   linear searches.
 //! * **Trusted:** `rustc`, LLVM, `core` and `alloc`, and the script that removes the contracts.
 //!   This crate forbids unsafe code. The core has a small module of it, for vector instructions;
 //!   `RUSTFLAGS="--cfg portable"` leaves all but one line of it out.
