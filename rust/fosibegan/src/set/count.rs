@@ -6,10 +6,9 @@ use core::fmt;
 use core::num::TryFromIntError;
 use fosibegan_core::AddressCount as CoreCount;
 
-/// The decimal digits of 2^128 before the last 18, and these.
+/// The decimal digits of 2^128: the last 18, and those before.
 const UPPER: u128 = 340_282_366_920_938_463_463;
 const LOWER: u128 = 374_607_431_768_211_456;
-const LOWER_UNIT: u128 = 1_000_000_000_000_000_000;
 
 /// A number of addresses: what [`AddressSet::address_count`](crate::AddressSet::address_count)
 /// returns. It is always exact.
@@ -129,9 +128,8 @@ impl fmt::Display for AddressCount {
         if !self.is_past_128_bits {
             return fmt::Display::fmt(&self.rest, f);
         }
-        let lower = LOWER + self.rest % LOWER_UNIT;
-        let upper = UPPER + self.rest / LOWER_UNIT + lower / LOWER_UNIT;
-        f.pad_integral(true, "", &format!("{upper}{:018}", lower % LOWER_UNIT))
+        // No set has more than the addresses of IPv4 beside those of IPv6: there is no carry.
+        f.pad_integral(true, "", &format!("{UPPER}{}", LOWER + self.rest))
     }
 }
 

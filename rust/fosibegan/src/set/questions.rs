@@ -60,8 +60,8 @@ impl<N: Network> AddressSet<N> {
 
     /// Returns `true` if the set contains an address. Takes a binary search.
     ///
-    /// An IPv4-mapped address such as `::ffff:10.1.2.3` is an IPv6 address here: see
-    /// [above](AddressSet#ipv4-mapped-addresses).
+    /// An address is never in a network of the other family, and an IPv4-mapped address such as
+    /// `::ffff:10.1.2.3` is an IPv6 address: see [above](AddressSet#ipv4-mapped-addresses).
     ///
     /// # Examples
     ///
