@@ -207,8 +207,8 @@ impl<N: Network, V> PrefixMap<N, V> {
 
     /// Turns the map into one that does not change and answers faster.
     ///
-    /// The values stay where they are. It takes about as long as it takes to insert a few percent
-    /// of the networks.
+    /// The values stay where they are. It takes less than half the time that it took to insert the
+    /// networks.
     ///
     /// # Examples
     ///

@@ -5,8 +5,8 @@ use super::{CoveredBy, Covering, Iter, IterMut, Keys, PrefixMap, Values, ValuesM
 use crate::{IpNetwork, Network};
 use core::net::IpAddr;
 
-/// A [`PrefixMap`] that keeps its networks as they are, and finds the longest match of an address
-/// in a few steps, whatever the address.
+/// A [`PrefixMap`] whose networks do not change, and which finds the longest match of an address
+/// faster: in a few steps for most addresses, and in as many as a binary search needs for any.
 ///
 /// It is made by [`PrefixMap::freeze`], or by collecting an iterator, and
 /// [`into_map`](Self::into_map) turns it back. Values can be changed in place; to add or remove
@@ -28,11 +28,11 @@ use core::net::IpAddr;
 /// As in a [`PrefixMap`], an IPv4-mapped address such as `::ffff:10.1.2.3` is an IPv6 address: pass
 /// `addr.to_canonical()`, or use [`longest_match_mapped`](Self::longest_match_mapped).
 ///
-/// # Speed and memory
+/// # Memory
 ///
-/// Beside the map's own memory there are 9 bytes for each IPv4 network boundary and 21 for each of
-/// IPv6, at most two boundaries for each network, and a table of up to 4 MiB where a search begins.
-/// A clone builds all of it again, so share a frozen map by [`Arc`](alloc::sync::Arc).
+/// Beside the memory that the map had before, a frozen map takes up to 50 bytes for each IPv4
+/// network and up to 90 bytes for each IPv6 network. To clone a map means to build all of it again:
+/// share a frozen map by [`Arc`](alloc::sync::Arc).
 pub struct FrozenMap<N, V> {
     pub(super) parts: Indexes<N, V>,
 }
