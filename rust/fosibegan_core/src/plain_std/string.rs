@@ -78,7 +78,8 @@ impl Write for String {
     }
 }
 
-/// `to_string`, with an allocator.
+/// `to_string`, with an allocator. Every page of a type that prints itself would show it.
+#[doc(hidden)]
 pub trait ToString {
     fn kit_to_string(&self, alloc: Global) -> Result<String, AllocError>;
 }
