@@ -97,6 +97,8 @@ def rust_times(run, name, source, *more):
     crate += ["--crate-type", "rlib", "--crate-name", "ipnetwork", "-o", library]
     said([*crate, source / "src/lib.rs", *more])
     where = ["--extern", f"ipnetwork={library}", "-L", run.folder]
+    # Where a loop happens to lie would count more than a call of a nanosecond.
+    where += ["-C", "llvm-args=--align-loops=64"]
     said([*RUSTC, *where, "-o", speed, TOP / "rust/patched/plain/examples/speed.rs"])
     times = {which: {} for which in ("this crate", "plain Rust")}
     for call, family, which, time in RUST_TIME.findall(said([speed])):
