@@ -13,10 +13,7 @@ pub(crate) type CoreV6 = core_family::Ipv6Network;
 /// program as std does, which makes no difference between one size and another.
 #[inline]
 pub(crate) fn or_abort<T, E>(result: Result<T, E>) -> T {
-    match result {
-        Ok(value) => value,
-        Err(_) => handle_alloc_error(Layout::new::<u8>()),
-    }
+    result.unwrap_or_else(|_| handle_alloc_error(Layout::new::<u8>()))
 }
 
 /// The address as the core has it.

@@ -19,11 +19,11 @@ use core::net::AddrParseError;
 #[derive(Clone, Debug, PartialEq, Eq, Hash)]
 #[non_exhaustive]
 pub enum IpNetworkError {
-    /// There is no address before the `/`. The string says so; if an
-    /// [`IpNetwork`](crate::IpNetwork) was to be read, it is the whole text, whatever is wrong with
-    /// it.
+    /// The text before the `/` is not an address. For [`Ipv4Network`](crate::Ipv4Network) and
+    /// [`Ipv6Network`](crate::Ipv6Network) the string tells the family of the address; for
+    /// [`IpNetwork`](crate::IpNetwork) it is the whole text, whatever is wrong with it.
     InvalidAddr(String),
-    /// The prefix length is missing, is no number or is too great, or the mask is not some ones
+    /// The prefix length is missing, is not a number or is too great, or the mask is not some ones
     /// followed by zeros.
     InvalidPrefix,
     /// There is more than one `/` in the text, which the string repeats.

@@ -394,28 +394,3 @@ fn of_mapped_addresses() {
         );
     }
 }
-
-/// What a constant needs is known at compile time.
-#[test]
-fn constants() {
-    const V4: Ipv4Network = Ipv4Network::new_checked(Ipv4Addr::new(10, 1, 9, 32), 8).unwrap();
-    const V6: Ipv6Network = Ipv6Network::new_checked(Ipv6Addr::LOCALHOST, 64).unwrap();
-    const EITHER: IpNetwork = IpNetwork::new_checked(IpAddr::V4(V4.ip()), 16).unwrap();
-    const _: () = {
-        assert!(V4.prefix() == 8 && V6.prefix() == 64 && EITHER.prefix() == 16);
-        assert!(V4.network().to_bits() == 10 << 24);
-        assert!(V4.broadcast().to_bits() == (11 << 24) - 1);
-        assert!(V4.mask().to_bits() == 255 << 24);
-        assert!(V4.size() == 1 << 24 && V6.size() == 1 << 64);
-        assert!(V4.contains(Ipv4Addr::new(10, 255, 255, 255)));
-        assert!(!V6.contains(Ipv6Addr::new(0, 0, 0, 1, 0, 0, 0, 1)));
-        assert!(EITHER.contains(IpAddr::V4(Ipv4Addr::new(10, 1, 255, 255))));
-        assert!(EITHER.contains_mapped(IpAddr::V4(Ipv4Addr::new(10, 1, 255, 255))));
-        assert!(EITHER.is_ipv4() && !EITHER.is_ipv6());
-        assert!(V4.nth(1).is_some() && V4.block().is_subnet_of(V4) && V4.is_supernet_of(V4));
-        assert!(V4.overlaps(V4) && V4.next().is_some() && V6.previous().is_none());
-        assert!(V4.supernet(9).is_none());
-    };
-    const NEW: Result<Ipv4Network, IpNetworkError> = Ipv4Network::new(Ipv4Addr::LOCALHOST, 33);
-    assert_eq!(NEW, Err(IpNetworkError::InvalidPrefix));
-}

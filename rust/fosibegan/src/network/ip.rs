@@ -13,7 +13,8 @@ use core::ops::RangeInclusive;
 /// [`contains_mapped`](Self::contains_mapped).
 ///
 /// It is read from the same texts as [`Ipv4Network`] and [`Ipv6Network`], and printed like them.
-/// Networks are ordered by family, IPv4 first, then by address, then by prefix length.
+/// [`cause_of`](Self::cause_of) tells why a text is refused. Networks are ordered by family, IPv4
+/// first, then by address, then by prefix length.
 ///
 /// # Examples
 ///

@@ -179,7 +179,7 @@ impl IpNetwork {
     /// use fosibegan::IpNetwork;
     ///
     /// let network: IpNetwork = "2001:db8::/32".parse()?;
-    /// let mut subnets = network.subnets(48).ok_or("not a longer prefix length")?;
+    /// let mut subnets = network.subnets(48).unwrap();
     /// assert_eq!(subnets.nth(1), Some("2001:db8:1::/48".parse()?));
     /// assert!(network.subnets(31).is_none());
     /// # Ok::<(), Box<dyn std::error::Error>>(())
@@ -307,7 +307,8 @@ impl IpNetwork {
     /// ascending order, IPv4 first, and with their host bits cleared.
     ///
     /// Networks that lie in others are left out, and neighbours that fill a larger network are
-    /// joined. Takes time *O*(*n* log *n*).
+    /// joined. The networks are taken by value: for those of a list that is kept, pass
+    /// `list.iter().copied()`. Takes time *O*(*n* log *n*).
     ///
     /// # Examples
     ///

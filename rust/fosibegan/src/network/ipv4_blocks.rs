@@ -127,7 +127,7 @@ impl Ipv4Network {
     /// use fosibegan::Ipv4Network;
     ///
     /// let network: Ipv4Network = "10.0.0.0/8".parse()?;
-    /// let subnets = network.subnets(16).ok_or("not a longer prefix length")?;
+    /// let subnets = network.subnets(16).unwrap();
     /// assert_eq!(subnets.clone().count(), 256);
     /// assert_eq!(subnets.last(), Some("10.255.0.0/16".parse()?));
     /// assert!(network.subnets(7).is_none());
@@ -258,7 +258,8 @@ impl Ipv4Network {
     /// ascending order and with their host bits cleared.
     ///
     /// Networks that lie in others are left out, and neighbours that fill a larger network are
-    /// joined. Takes time *O*(*n* log *n*).
+    /// joined. The networks are taken by value: for those of a list that is kept, pass
+    /// `list.iter().copied()`. Takes time *O*(*n* log *n*).
     ///
     /// # Examples
     ///

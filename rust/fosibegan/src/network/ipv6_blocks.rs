@@ -127,7 +127,7 @@ impl Ipv6Network {
     /// use fosibegan::Ipv6Network;
     ///
     /// let network: Ipv6Network = "2001:db8::/32".parse()?;
-    /// let subnets = network.subnets(48).ok_or("not a longer prefix length")?;
+    /// let subnets = network.subnets(48).unwrap();
     /// assert_eq!(subnets.clone().count(), 65_536);
     /// assert_eq!(subnets.last(), Some("2001:db8:ffff::/48".parse()?));
     /// assert!(network.subnets(31).is_none());
@@ -257,7 +257,8 @@ impl Ipv6Network {
     /// ascending order and with their host bits cleared.
     ///
     /// Networks that lie in others are left out, and neighbours that fill a larger network are
-    /// joined. Takes time *O*(*n* log *n*).
+    /// joined. The networks are taken by value: for those of a list that is kept, pass
+    /// `list.iter().copied()`. Takes time *O*(*n* log *n*).
     ///
     /// # Examples
     ///

@@ -1,6 +1,4 @@
-//! With the feature `serde`: a network is its text in formats that people read, such as JSON. In
-//! others it is bytes: those of its address, the most significant first, then its prefix length.
-//! They are 5 bytes for IPv4 and 17 for IPv6, by which [`IpNetwork`] tells the families apart.
+//! With the feature `serde`: networks as texts and as bytes.
 
 use crate::{IpNetwork, Ipv4Network, Ipv6Network};
 use core::fmt;
@@ -101,6 +99,10 @@ impl<'de, N: OfBytes> Visitor<'de> for Bytes<N> {
 
 macro_rules! network {
     ($($name:ident)*) => {$(
+        /// A network is read from what `Serialize` writes: from each text that [`parse`](str::parse)
+        /// reads, or from bytes.
+        ///
+        /// Bytes are refused if their number or the prefix length is none of this type.
         impl<'de> Deserialize<'de> for $name {
             fn deserialize<D: Deserializer<'de>>(deserializer: D) -> Result<Self, D::Error> {
                 if deserializer.is_human_readable() {
@@ -115,6 +117,8 @@ macro_rules! network {
 
 network!(Ipv4Network Ipv6Network IpNetwork);
 
+/// A network is text in formats that people read, such as JSON, and 5 bytes in others: those of the
+/// address, the most significant first, and the prefix length.
 impl Serialize for Ipv4Network {
     fn serialize<S: Serializer>(&self, serializer: S) -> Result<S::Ok, S::Error> {
         if serializer.is_human_readable() {
@@ -125,6 +129,8 @@ impl Serialize for Ipv4Network {
     }
 }
 
+/// A network is text in formats that people read, such as JSON, and 17 bytes in others: those of
+/// the address, the most significant first, and the prefix length.
 impl Serialize for Ipv6Network {
     fn serialize<S: Serializer>(&self, serializer: S) -> Result<S::Ok, S::Error> {
         if serializer.is_human_readable() {
@@ -136,6 +142,9 @@ impl Serialize for Ipv6Network {
     }
 }
 
+/// A network is text in formats that people read, such as JSON, and bytes in others: those of its
+/// address, the most significant first, and its prefix length. These are 5 for IPv4 and 17 for IPv6,
+/// so that either family is read back.
 impl Serialize for IpNetwork {
     fn serialize<S: Serializer>(&self, serializer: S) -> Result<S::Ok, S::Error> {
         match self {

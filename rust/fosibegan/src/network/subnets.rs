@@ -16,7 +16,7 @@ use fosibegan_core::subnet_at;
 /// use fosibegan::{Ipv4Network, Subnets};
 ///
 /// let network: Ipv4Network = "10.0.0.0/8".parse()?;
-/// let mut subnets: Subnets<Ipv4Network> = network.subnets(16).ok_or("not a longer prefix length")?;
+/// let mut subnets: Subnets<Ipv4Network> = network.subnets(16).unwrap();
 /// assert_eq!(subnets.next(), Some("10.0.0.0/16".parse()?));
 /// assert_eq!(subnets.nth(8), Some("10.9.0.0/16".parse()?));
 /// assert_eq!(subnets.next_back(), Some("10.255.0.0/16".parse()?));

@@ -1,0 +1,7 @@
+//! Networks: their texts, what they are as values, and their iterators.
+
+mod blocks;
+mod common;
+mod members;
+mod texts;
+mod values;
