@@ -5,6 +5,7 @@ mod maps_model;
 use fosibegan::prefix_map::Entry;
 use fosibegan::{FrozenMap, IpNetwork, Ipv4Network, Ipv6Network, PrefixMap};
 use maps_model::{Block, Model, Random, SPACES, Space, Tested, read};
+use std::collections::BTreeMap;
 
 /// A map and what it should be.
 struct Pair<N, V> {
@@ -361,4 +362,43 @@ fn ten_million_questions_of_ipv6() {
 fn ten_million_questions_of_both_families() {
     many_questions::<IpNetwork>(false, 0xffff_0000);
     many_questions::<IpNetwork>(true, u128::MAX - 0xffff);
+}
+
+/// More entries than 16 bits can number: inserted, set again, removed and asked.
+fn large_maps<N: Tested>(seed: u64) {
+    let mut random = Random::new(seed);
+    let mut map = PrefixMap::default();
+    let mut model = BTreeMap::new();
+    let mut blocks = Vec::new();
+    for value in 0..80_000 {
+        let is_v6 = N::FAMILIES[random.below(N::FAMILIES.len() as u64) as usize];
+        let number = random.wide() >> (128 - maps_model::width(is_v6));
+        let block = Block::of(is_v6, number, 20 + u8::try_from(random.below(12)).unwrap());
+        blocks.push(block);
+        assert_eq!(
+            map.insert(N::of_block(block), value),
+            model.insert(block, value)
+        );
+    }
+    for (place, block) in blocks.iter().enumerate() {
+        let network = N::of_block(*block);
+        match place % 3 {
+            0 => assert_eq!(map.remove(network), model.remove(block)),
+            1 => assert_eq!(map.insert(network, 7), model.insert(*block, 7)),
+            _ => assert_eq!(map.get(network), model.get(block)),
+        }
+    }
+    let expected: Vec<_> = model.into_iter().collect();
+    assert_eq!(read(&map), expected);
+    for (block, value) in &expected {
+        assert_eq!(map.get(N::of_block(*block)), Some(value));
+    }
+    assert_eq!(read(&map.freeze()), expected);
+}
+
+#[test]
+fn large_maps_of_each_family() {
+    large_maps::<Ipv4Network>(61);
+    large_maps::<Ipv6Network>(62);
+    large_maps::<IpNetwork>(63);
 }
