@@ -30,7 +30,8 @@ pub use slot::{OccupiedEntry, VacantEntry};
 use crate::IpNetwork;
 use parts::Tables;
 
-/// A map from networks to values, which finds the longest network that contains an address.
+/// A map from networks to values, with longest-prefix match: it finds the most specific network
+/// that contains an address.
 ///
 /// ```
 /// use fosibegan::PrefixMap;
@@ -41,7 +42,7 @@ use parts::Tables;
 /// routes.insert("10.1.0.0/16".parse()?, "laboratory".to_string());
 /// routes.insert("2001:db8::/32".parse()?, "office".to_string());
 ///
-/// // An IPv4 client of a socket that serves both families may come as `::ffff:10.1.2.3`.
+/// // A socket that listens for both families reports 10.1.2.3 as ::ffff:10.1.2.3.
 /// let client: IpAddr = "::ffff:10.1.2.3".parse()?;
 /// let (network, name) = routes.longest_match(client.to_canonical()).ok_or("no route")?;
 /// assert_eq!(network.to_string(), "10.1.0.0/16");
@@ -53,11 +54,11 @@ use parts::Tables;
 ///
 /// `N` is the type of the keys: [`IpNetwork`] for both families in one map, or
 /// [`Ipv4Network`](crate::Ipv4Network) or [`Ipv6Network`](crate::Ipv6Network) for one family alone.
-/// [`new`](Self::new) makes a map of both families, so that the type need not be written; a map of
-/// one family is made by `PrefixMap::<Ipv4Network, _>::default()` or by collecting an iterator.
+/// [`new`](Self::new) makes a map of both families, so no type has to be named; a map of one family
+/// is made by `PrefixMap::<Ipv4Network, _>::default()` or by collecting an iterator.
 ///
-/// A key is a block of addresses. Host bits of a network that is passed to any method are cleared,
-/// so `10.1.2.3/8` and `10.0.0.0/8` are the same key, and a map returns the latter.
+/// A key is a block of addresses. The host bits of every network that is passed to a method are
+/// cleared, so `10.1.2.3/8` and `10.0.0.0/8` are the same key, and the map returns the latter.
 ///
 /// The order of a map is that of its keys: IPv4 before IPv6, lower addresses first, and a network
 /// before the smaller networks that it contains.
@@ -166,7 +167,7 @@ impl<N, V> PrefixMap<N, V> {
         self.parts.len()
     }
 
-    /// Returns whether the map has no network.
+    /// Returns `true` if the map has no networks.
     ///
     /// # Examples
     ///

@@ -205,7 +205,8 @@ impl<N: Network, V> PrefixMap<N, V> {
         }
     }
 
-    /// Turns the map into one that does not change and answers faster.
+    /// Turns the map into a [`FrozenMap`], which answers faster and takes no more networks. Clone
+    /// the map first to keep it.
     ///
     /// The values stay where they are. It takes less than half the time that it took to insert the
     /// networks.

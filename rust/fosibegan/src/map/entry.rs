@@ -8,6 +8,8 @@ use core::fmt::{self, Debug, Formatter};
 /// The entry of one network in a [`PrefixMap`](crate::PrefixMap): made by its method
 /// [`entry`](crate::PrefixMap::entry).
 ///
+/// # Examples
+///
 /// ```
 /// use fosibegan::prefix_map::Entry;
 /// use fosibegan::{IpNetwork, PrefixMap};
@@ -24,7 +26,7 @@ use core::fmt::{self, Debug, Formatter};
 pub enum Entry<'a, N, V> {
     /// The network has a value.
     Occupied(OccupiedEntry<'a, N, V>),
-    /// The network has none.
+    /// The network has no value.
     Vacant(VacantEntry<'a, N, V>),
 }
 

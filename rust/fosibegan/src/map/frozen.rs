@@ -64,7 +64,7 @@ impl<N, V> FrozenMap<N, V> {
         self.parts.len()
     }
 
-    /// Returns whether the map has no network.
+    /// Returns `true` if the map has no networks.
     ///
     /// # Examples
     ///
@@ -191,7 +191,7 @@ impl<N: Network, V> FrozenMap<N, V> {
         self.parts.get_mut(network)
     }
 
-    /// Returns whether exactly this network has a value.
+    /// Returns `true` if exactly this network is in the map.
     ///
     /// # Examples
     ///

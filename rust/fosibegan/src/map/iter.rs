@@ -11,6 +11,22 @@ use core::iter::FusedIterator;
 ///
 /// It is made by the methods `iter` of [`PrefixMap`](crate::PrefixMap::iter) and
 /// [`FrozenMap`](crate::FrozenMap::iter).
+///
+/// # Examples
+///
+/// ```
+/// use fosibegan::prefix_map::Iter;
+/// use fosibegan::{IpNetwork, PrefixMap};
+///
+/// let mut map = PrefixMap::new();
+/// map.insert("10.0.0.0/8".parse()?, 1);
+/// map.insert("10.1.0.0/16".parse()?, 2);
+///
+/// let mut entries: Iter<'_, IpNetwork, i32> = map.iter();
+/// assert_eq!(entries.len(), 2);
+/// assert_eq!(entries.next_back(), Some(("10.1.0.0/16".parse()?, &2)));
+/// # Ok::<(), Box<dyn std::error::Error>>(())
+/// ```
 #[must_use = "iterators are lazy and do nothing unless consumed"]
 pub struct Iter<'a, N, V> {
     pub(super) inner: Both<N, PartIter<'a, CoreV4, V>, PartIter<'a, CoreV6, V>>,
@@ -20,6 +36,22 @@ pub struct Iter<'a, N, V> {
 ///
 /// It is made by the methods `keys` of [`PrefixMap`](crate::PrefixMap::keys) and
 /// [`FrozenMap`](crate::FrozenMap::keys).
+///
+/// # Examples
+///
+/// ```
+/// use fosibegan::prefix_map::Keys;
+/// use fosibegan::{IpNetwork, PrefixMap};
+///
+/// let mut map = PrefixMap::new();
+/// map.insert("10.0.0.0/8".parse()?, 1);
+/// map.insert("10.1.0.0/16".parse()?, 2);
+///
+/// let mut networks: Keys<'_, IpNetwork, i32> = map.keys();
+/// assert_eq!(networks.next(), Some("10.0.0.0/8".parse()?));
+/// assert_eq!(networks.next(), Some("10.1.0.0/16".parse()?));
+/// # Ok::<(), Box<dyn std::error::Error>>(())
+/// ```
 #[must_use = "iterators are lazy and do nothing unless consumed"]
 pub struct Keys<'a, N, V> {
     pub(super) inner: Both<N, PartIter<'a, CoreV4, V>, PartIter<'a, CoreV6, V>>,
@@ -29,6 +61,21 @@ pub struct Keys<'a, N, V> {
 ///
 /// It is made by the methods `values` of [`PrefixMap`](crate::PrefixMap::values) and
 /// [`FrozenMap`](crate::FrozenMap::values).
+///
+/// # Examples
+///
+/// ```
+/// use fosibegan::prefix_map::Values;
+/// use fosibegan::{IpNetwork, PrefixMap};
+///
+/// let mut map = PrefixMap::new();
+/// map.insert("10.0.0.0/8".parse()?, 1);
+/// map.insert("10.1.0.0/16".parse()?, 2);
+///
+/// let values: Values<'_, IpNetwork, i32> = map.values();
+/// assert_eq!(values.sum::<i32>(), 3);
+/// # Ok::<(), Box<dyn std::error::Error>>(())
+/// ```
 #[must_use = "iterators are lazy and do nothing unless consumed"]
 pub struct Values<'a, N, V> {
     pub(super) inner: Both<N, PartIter<'a, CoreV4, V>, PartIter<'a, CoreV6, V>>,
@@ -38,6 +85,24 @@ pub struct Values<'a, N, V> {
 ///
 /// It is made by the methods `covering` of [`PrefixMap`](crate::PrefixMap::covering) and
 /// [`FrozenMap`](crate::FrozenMap::covering).
+///
+/// # Examples
+///
+/// ```
+/// use fosibegan::prefix_map::Covering;
+/// use fosibegan::{IpNetwork, PrefixMap};
+///
+/// let mut map = PrefixMap::new();
+/// map.insert("10.0.0.0/8".parse()?, 1);
+/// map.insert("10.1.0.0/16".parse()?, 2);
+///
+/// let network: IpNetwork = "10.1.9.0/24".parse()?;
+/// let mut covering: Covering<'_, IpNetwork, i32> = map.covering(network);
+/// assert_eq!(covering.next(), Some(("10.0.0.0/8".parse()?, &1)));
+/// assert_eq!(covering.next(), Some(("10.1.0.0/16".parse()?, &2)));
+/// assert_eq!(covering.next(), None);
+/// # Ok::<(), Box<dyn std::error::Error>>(())
+/// ```
 #[must_use = "iterators are lazy and do nothing unless consumed"]
 pub struct Covering<'a, N, V> {
     pub(super) inner: Both<N, PartCovering<'a, CoreV4, V>, PartCovering<'a, CoreV6, V>>,
@@ -47,6 +112,22 @@ pub struct Covering<'a, N, V> {
 ///
 /// It is made by the methods `covered_by` of [`PrefixMap`](crate::PrefixMap::covered_by) and
 /// [`FrozenMap`](crate::FrozenMap::covered_by).
+///
+/// # Examples
+///
+/// ```
+/// use fosibegan::prefix_map::CoveredBy;
+/// use fosibegan::{IpNetwork, PrefixMap};
+///
+/// let mut map = PrefixMap::new();
+/// map.insert("10.0.0.0/8".parse()?, 1);
+/// map.insert("10.1.0.0/16".parse()?, 2);
+///
+/// let mut covered: CoveredBy<'_, IpNetwork, i32> = map.covered_by("10.0.0.0/9".parse()?);
+/// assert_eq!(covered.next(), Some(("10.1.0.0/16".parse()?, &2)));
+/// assert_eq!(covered.next(), None);
+/// # Ok::<(), Box<dyn std::error::Error>>(())
+/// ```
 #[must_use = "iterators are lazy and do nothing unless consumed"]
 pub struct CoveredBy<'a, N, V> {
     pub(super) inner: Both<N, PartRange<'a, CoreV4, V>, PartRange<'a, CoreV6, V>>,

@@ -48,7 +48,7 @@ impl<N: Network, V> PrefixMap<N, V> {
         self.parts.get_mut(network)
     }
 
-    /// Returns whether exactly this network has a value.
+    /// Returns `true` if exactly this network is in the map.
     ///
     /// # Examples
     ///

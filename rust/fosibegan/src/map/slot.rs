@@ -6,6 +6,24 @@ use core::fmt::{self, Debug, Formatter};
 use core::mem;
 
 /// The entry of a network that has a value. It is part of [`Entry`](crate::prefix_map::Entry).
+///
+/// # Examples
+///
+/// ```
+/// use fosibegan::prefix_map::{Entry, OccupiedEntry};
+/// use fosibegan::{IpNetwork, PrefixMap};
+///
+/// let mut map = PrefixMap::new();
+/// map.insert("10.0.0.0/8".parse()?, 1);
+/// map.insert("10.1.0.0/16".parse()?, 2);
+///
+/// if let Entry::Occupied(entry) = map.entry("10.0.0.0/8".parse()?) {
+///     let entry: OccupiedEntry<'_, IpNetwork, i32> = entry;
+///     assert_eq!(entry.remove(), 1);
+/// }
+/// assert_eq!(map.len(), 1);
+/// # Ok::<(), Box<dyn std::error::Error>>(())
+/// ```
 pub struct OccupiedEntry<'a, N, V> {
     pub(super) network: N,
     pub(super) parts: &'a mut Tables<N, V>,
@@ -13,6 +31,24 @@ pub struct OccupiedEntry<'a, N, V> {
 }
 
 /// The entry of a network that has no value. It is part of [`Entry`](crate::prefix_map::Entry).
+///
+/// # Examples
+///
+/// ```
+/// use fosibegan::prefix_map::{Entry, VacantEntry};
+/// use fosibegan::{IpNetwork, PrefixMap};
+///
+/// let mut map = PrefixMap::new();
+/// map.insert("10.0.0.0/8".parse()?, 1);
+/// map.insert("10.1.0.0/16".parse()?, 2);
+///
+/// if let Entry::Vacant(entry) = map.entry("10.2.0.0/16".parse()?) {
+///     let entry: VacantEntry<'_, IpNetwork, i32> = entry;
+///     entry.insert(3);
+/// }
+/// assert_eq!(map.len(), 3);
+/// # Ok::<(), Box<dyn std::error::Error>>(())
+/// ```
 pub struct VacantEntry<'a, N, V> {
     pub(super) network: N,
     pub(super) parts: &'a mut Tables<N, V>,
