@@ -2,6 +2,7 @@
 
 mod blocks;
 mod common;
+mod generic;
 mod members;
 mod texts;
 mod values;
