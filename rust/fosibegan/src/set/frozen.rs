@@ -139,7 +139,7 @@ impl<N: Network> FrozenSet<N> {
     ///
     /// let nobody = AddressSet::new().freeze();
     /// assert!(nobody.is_empty());
-    /// assert!(!FrozenSet::from_iter(["0.0.0.0/0".parse::<IpNetwork>()?]).is_empty());
+    /// assert!(!FrozenSet::from(["0.0.0.0/0".parse::<IpNetwork>()?]).is_empty());
     /// # Ok::<(), Box<dyn std::error::Error>>(())
     /// ```
     #[must_use]
@@ -156,7 +156,7 @@ impl<N: Network> FrozenSet<N> {
     /// use fosibegan::{FrozenSet, IpNetwork};
     ///
     /// let halves = ["10.0.0.0/9".parse::<IpNetwork>()?, "10.128.0.0/9".parse()?];
-    /// let allowed = FrozenSet::from_iter(halves);
+    /// let allowed = FrozenSet::from(halves);
     /// assert_eq!(allowed.len(), 1);
     /// # Ok::<(), Box<dyn std::error::Error>>(())
     /// ```
@@ -184,8 +184,24 @@ impl<N: Network> From<AddressSet<N>> for FrozenSet<N> {
 }
 
 impl<N: Network, T: Addresses<N>> FromIterator<T> for FrozenSet<N> {
+    /// Creates the set of the addresses of all items.
+    ///
+    /// # Panics
+    ///
+    /// Panics if a range begins in one address family and ends in the other.
     fn from_iter<I: IntoIterator<Item = T>>(items: I) -> Self {
         AddressSet::from_iter(items).into()
+    }
+}
+
+impl<N: Network, T: Addresses<N>, const K: usize> From<[T; K]> for FrozenSet<N> {
+    /// Creates the set of the addresses of all items.
+    ///
+    /// # Panics
+    ///
+    /// Panics if a range begins in one address family and ends in the other.
+    fn from(items: [T; K]) -> Self {
+        Self::from_iter(items)
     }
 }
 

@@ -94,6 +94,18 @@ fn what_is_not_empty() {
     );
 }
 
+#[test]
+fn made_of_an_array() {
+    let set = FrozenSet::<Ipv4Network>::from([addr(1)..=addr(2), addr(9)..=addr(9)]);
+    let answers: Vec<bool> = (0..=10).map(|last| set.contains(addr(last))).collect();
+    let expected: Vec<bool> = (0..=10).map(|last| [1, 2, 9].contains(&last)).collect();
+    assert_eq!((answers, set.len()), (expected, 3));
+
+    fn addr(last: u8) -> Ipv4Addr {
+        Ipv4Addr::new(192, 0, 2, last)
+    }
+}
+
 /// What is said of either form counts, of a mapped address only.
 #[test]
 fn mapped_addresses() {
