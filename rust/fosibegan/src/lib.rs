@@ -52,16 +52,20 @@
 //! [`summarize`]: IpNetwork::summarize
 //!
 //! A set or a map of [`IpNetwork`] holds both families. `AddressSet<Ipv4Network>` holds IPv4 alone,
-//! and is asked for an `Ipv4Addr`. `AddressSet::new()` and `PrefixMap::new()` are for both families;
+//! and its `contains` takes an `Ipv4Addr`. `AddressSet::new()` and `PrefixMap::new()` are for both families;
 //! a set or map of one family is made by `default()`, `collect()` or `from`, and names its type.
 //!
 //! # IPv4-mapped addresses
 //!
 //! `::ffff:10.1.2.3` is the form that 10.1.2.3 takes on an IPv6 socket. It is an IPv6 address, so it
 //! is in no IPv4 network: a deny list with `10.0.0.0/8` does not stop it. Pass `addr.to_canonical()`,
-//! which turns it into 10.1.2.3 and leaves every other address as it is. If the list itself may have
-//! networks in the mapped form, use [`AddressSet::contains_mapped`] or
-//! [`PrefixMap::longest_match_mapped`], for which either form counts.
+//! which turns it into 10.1.2.3 and leaves every other address as it is.
+//!
+//! If a deny list may itself have networks in the mapped form, such as `::ffff:10.0.0.0/104`, use
+//! [`AddressSet::contains_mapped`]: `::ffff:10.1.2.3` is then denied if either form of it is in the
+//! list. [`PrefixMap::longest_match_mapped`] tries both forms too. For an allow list, stay with
+//! `to_canonical()`: otherwise `::/0`, which contains all mapped addresses, lets in every IPv4 client
+//! of such a socket.
 //!
 //! # Texts
 //!

@@ -47,11 +47,14 @@ use fosibegan_core::plain_std::vec::Vec as CoreVec;
 ///
 /// # IPv4-mapped addresses
 ///
-/// `::ffff:10.1.2.3` is an IPv6 address, and not in `10.0.0.0/8`. Where such addresses turn up, ask
-/// `contains(addr.to_canonical())`, as above; or, if the set itself may have networks such as
-/// `::ffff:10.0.0.0/104`, ask [`contains_mapped`](AddressSet::contains_mapped). For a deny list
-/// this is essential: otherwise an address passes if it comes in the form that the list does not
-/// have.
+/// `::ffff:10.1.2.3` is an IPv6 address, and not in `10.0.0.0/8`. Where such addresses turn up, use
+/// `contains(addr.to_canonical())`, as above. For a deny list this is essential: otherwise such an
+/// address passes.
+///
+/// If a deny list may itself have networks such as `::ffff:10.0.0.0/104`, use
+/// [`contains_mapped`](AddressSet::contains_mapped), which looks for both forms of a mapped address.
+/// For an allow list do not: there `::/0`, which contains all mapped addresses, would let in every
+/// IPv4 client whose address comes in the mapped form.
 ///
 /// # Cost
 ///

@@ -28,9 +28,10 @@ use fosibegan_core::plain_std::alloc::Global;
 /// # Ok::<(), Box<dyn std::error::Error>>(())
 /// ```
 ///
-/// As with an [`AddressSet`], an IPv4-mapped address such as `::ffff:10.1.2.3` is an IPv6 address:
-/// ask `contains(addr.to_canonical())`, or [`contains_mapped`](FrozenSet::contains_mapped). **An
-/// empty set contains no address**, so an empty deny list lets everybody in.
+/// As with an [`AddressSet`](AddressSet#ipv4-mapped-addresses), an IPv4-mapped address such as
+/// `::ffff:10.1.2.3` is an IPv6 address: use `contains(addr.to_canonical())`, or, for a deny list,
+/// [`contains_mapped`](FrozenSet::contains_mapped). **An empty set contains no address**, so an empty
+/// deny list lets everybody in.
 ///
 /// # Cost
 ///
@@ -46,18 +47,20 @@ pub struct FrozenSet<N: Network = IpNetwork> {
 }
 
 impl FrozenSet {
-    /// Returns `true` if the set contains an address in either of its forms.
+    /// Returns `true` if the set contains an address, or one of the two forms of an IPv4-mapped
+    /// address.
     ///
     /// For an IPv4-mapped address such as `::ffff:10.1.2.3`, this is `true` if the set contains the
     /// IPv4 address (`10.1.2.3`) or the IPv6 address as it stands. For every other address it is
-    /// the same as [`contains`](Self::contains).
+    /// the same as [`contains`](Self::contains): `10.1.2.3` itself is not looked for among mapped
+    /// networks. Where it should be, pass its mapped form, `v4.to_ipv6_mapped()`.
     ///
     /// # Examples
     ///
     /// ```
     /// use fosibegan::{FrozenSet, IpNetwork};
     ///
-    /// let denied = FrozenSet::from_iter(["10.0.0.0/8".parse::<IpNetwork>()?]);
+    /// let denied = FrozenSet::from(["10.0.0.0/8".parse::<IpNetwork>()?]);
     /// assert!(denied.contains_mapped("::ffff:10.1.2.3".parse()?));
     /// assert!(!denied.contains_mapped("::ffff:11.1.2.3".parse()?));
     /// # Ok::<(), Box<dyn std::error::Error>>(())

@@ -1,26 +1,32 @@
-//! What a set is asked.
+//! Questions about a set.
 
 use crate::convert::{asked_v4, asked_v6};
 use crate::{AddressCount, AddressSet, FrozenSet, IpNetwork, Network};
 use core::net::IpAddr;
 
 impl AddressSet {
-    /// Returns `true` if the set contains an address in either of its forms.
+    /// Returns `true` if the set contains an address, or one of the two forms of an IPv4-mapped
+    /// address.
     ///
     /// For an IPv4-mapped address such as `::ffff:10.1.2.3`, this is `true` if the set contains the
     /// IPv4 address (`10.1.2.3`) or the IPv6 address as it stands. For every other address it is
-    /// the same as [`contains`](Self::contains).
+    /// the same as [`contains`](Self::contains): `10.1.2.3` itself is not looked for among mapped
+    /// networks. Where it should be, pass its mapped form, `v4.to_ipv6_mapped()`.
     ///
     /// # Examples
     ///
     /// ```
     /// use fosibegan::{AddressSet, IpNetwork};
+    /// use std::net::Ipv4Addr;
     ///
     /// let denied: AddressSet =
     ///     ["10.0.0.0/8".parse::<IpNetwork>()?, "::ffff:192.0.2.0/120".parse()?].into();
     /// assert!(denied.contains_mapped("::ffff:10.1.2.3".parse()?));
     /// assert!(denied.contains_mapped("::ffff:192.0.2.1".parse()?));
-    /// assert!(!denied.contains_mapped("192.0.2.1".parse()?));
+    ///
+    /// let v4 = Ipv4Addr::new(192, 0, 2, 1);
+    /// assert!(!denied.contains_mapped(v4.into()));
+    /// assert!(denied.contains_mapped(v4.to_ipv6_mapped().into()));
     /// # Ok::<(), Box<dyn std::error::Error>>(())
     /// ```
     #[inline]
