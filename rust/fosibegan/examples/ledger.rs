@@ -9,9 +9,9 @@
 //! free                  prints what is free
 //! ```
 //!
-//! The status is 1 if some change was refused.
+//! The status is 1 if some change was refused, and 2 if POOL is no network.
 
-use fosibegan::{AddressSet, IpNetwork, PrefixMap};
+use fosibegan::{AddressSet, IpNetwork, IpNetworkError, PrefixMap};
 use std::process::ExitCode;
 use std::{env, io};
 
@@ -62,8 +62,15 @@ impl Ledger {
     }
 }
 
+/// The network that a text names, or what is wrong with the text.
+fn network(text: &str) -> Result<IpNetwork, String> {
+    text.parse().map_err(|error: IpNetworkError| {
+        let cause = IpNetwork::cause_of(text).unwrap_or(error);
+        format!("{text}: {cause}")
+    })
+}
+
 fn change(ledger: &mut Ledger, line: &str) -> Result<String, String> {
-    let network = |text: &str| text.parse::<IpNetwork>().map_err(|error| error.to_string());
     let words: Vec<&str> = line.split_whitespace().collect();
     match words[..] {
         ["next", prefix, holder] => {
@@ -99,14 +106,17 @@ fn change(ledger: &mut Ledger, line: &str) -> Result<String, String> {
 }
 
 fn main() -> ExitCode {
-    let Some(pool) = env::args()
-        .nth(1)
-        .and_then(|pool| pool.parse::<IpNetwork>().ok())
-    else {
+    let Some(pool) = env::args_os().nth(1) else {
         eprintln!("usage: ledger POOL");
         return ExitCode::from(2);
     };
-    let mut ledger = Ledger::new(pool.block());
+    let mut ledger = match network(&pool.to_string_lossy()) {
+        Ok(pool) => Ledger::new(pool.block()),
+        Err(why) => {
+            eprintln!("{why}");
+            return ExitCode::from(2);
+        }
+    };
     let mut status = ExitCode::SUCCESS;
     for line in io::stdin().lines() {
         let line = match line {

@@ -1,12 +1,13 @@
 //! The routes of a router: the most specific network that contains an address says where to send.
 //!
 //! `cargo run --example routes ADDRESS..` prints where packets for each address go. The status is 1
-//! if there is no route for one of them.
+//! if there is no route for one of them. If an argument is no address, nothing is printed but why,
+//! and the status is 2.
 
 use fosibegan::{FrozenMap, IpNetwork, PrefixMap};
 use std::env;
 use std::error::Error;
-use std::net::IpAddr;
+use std::net::{AddrParseError, IpAddr};
 use std::process::ExitCode;
 
 const CONFIGURED: [(&str, &str); 6] = [
@@ -40,11 +41,24 @@ fn routes() -> Result<FrozenMap<IpNetwork, String>, Box<dyn Error>> {
     Ok(routes.freeze())
 }
 
-fn main() -> Result<ExitCode, Box<dyn Error>> {
-    let routes = routes()?;
+/// The addresses that the command line names.
+fn addresses() -> Result<Vec<IpAddr>, String> {
+    let addrs = env::args_os().skip(1).map(|argument| {
+        let text = argument.to_string_lossy();
+        text.parse()
+            .map_err(|error: AddrParseError| format!("{text}: {error}"))
+    });
+    let addrs = addrs.collect::<Result<Vec<_>, _>>()?;
+    if addrs.is_empty() {
+        return Err("usage: routes ADDRESS..".to_owned());
+    }
+    Ok(addrs)
+}
+
+fn send() -> Result<ExitCode, Box<dyn Error>> {
+    let (routes, addrs) = (routes()?, addresses()?);
     let mut status = ExitCode::SUCCESS;
-    for argument in env::args().skip(1) {
-        let addr: IpAddr = argument.parse()?;
+    for addr in addrs {
         if let Some((network, next_hop)) = routes.longest_match(addr.to_canonical()) {
             println!("{addr} goes to {next_hop} ({network})");
         } else {
@@ -53,4 +67,11 @@ fn main() -> Result<ExitCode, Box<dyn Error>> {
         }
     }
     Ok(status)
+}
+
+fn main() -> ExitCode {
+    send().unwrap_or_else(|error| {
+        eprintln!("{error}");
+        ExitCode::from(2)
+    })
 }

@@ -6,12 +6,14 @@
 //! not, and 2 if a file is refused.
 
 use fosibegan::{AddressSet, IpNetwork, IpNetworkError};
+use std::path::{Path, PathBuf};
 use std::process::ExitCode;
 use std::{env, fs};
 
 /// Reads a list: a network or an address on each line; a `#` begins a comment.
-fn read(file: &str) -> Result<AddressSet, String> {
-    let text = fs::read_to_string(file).map_err(|error| format!("{file}: {error}"))?;
+fn read(path: &Path) -> Result<AddressSet, String> {
+    let file = path.display();
+    let text = fs::read_to_string(path).map_err(|error| format!("{file}: {error}"))?;
     let entries = text
         .lines()
         .map(|line| line.split('#').next().unwrap_or_default().trim());
@@ -28,7 +30,7 @@ fn read(file: &str) -> Result<AddressSet, String> {
         .map(AddressSet::from_iter)
 }
 
-fn compare(old: &str, new: &str) -> Result<bool, String> {
+fn compare(old: &Path, new: &Path) -> Result<bool, String> {
     let (old, new) = (read(old)?, read(new)?);
     for network in old.difference(&new) {
         println!("- {network}");
@@ -43,7 +45,7 @@ fn compare(old: &str, new: &str) -> Result<bool, String> {
 }
 
 fn main() -> ExitCode {
-    let arguments: Vec<String> = env::args().skip(1).collect();
+    let arguments: Vec<PathBuf> = env::args_os().skip(1).map(PathBuf::from).collect();
     let [old, new] = &arguments[..] else {
         eprintln!("usage: two_lists OLD NEW");
         return ExitCode::from(2);

@@ -160,7 +160,20 @@ fn routes_takes_the_longest_network() {
     assert_eq!((status, stdout.as_str()), (0, wanted));
     let (status, stdout, _) = run("routes", &["192.0.3.0"], "");
     assert_eq!((status, stdout.as_str()), (1, "192.0.3.0 has no route\n"));
-    assert_eq!(run("routes", &["10.1"], "").0, 1);
+    let none: [&str; 0] = [];
+    for (arguments, why) in [
+        (&none[..], "usage: routes ADDRESS..\n"),
+        (&["10.1"], "10.1: invalid IP address syntax\n"),
+        (
+            &["10.2.3.4", "10.1.2.3/8"],
+            "10.1.2.3/8: invalid IP address syntax\n",
+        ),
+    ] {
+        assert_eq!(
+            run("routes", arguments, ""),
+            (2, String::new(), why.to_owned())
+        );
+    }
 }
 
 #[test]
@@ -201,6 +214,10 @@ fn ledger_gives_each_block_once() {
         ("next 25 big", "10.0.0.128/25 big"),
         ("next 26 more", "10.0.0.64/26 more"),
         ("next 33 none", "refused: no /33 is free in 10.0.0.0/24"),
+        (
+            "take 10.0.0.0/33 none",
+            "refused: 10.0.0.0/33: invalid prefix",
+        ),
         ("next 23 none", "refused: no /23 is free in 10.0.0.0/24"),
         (
             "sell 10.0.0.0/28",
@@ -211,7 +228,11 @@ fn ledger_gives_each_block_once() {
     let (status, stdout, _) = run("ledger", &["10.0.0.0/24"], &input.join("\n"));
     assert_eq!((status, stdout.lines().collect()), (1, wanted));
     assert_eq!(run("ledger", &["10.0.0.0/24"], "next 28 mail\n").0, 0);
-    assert_eq!(run("ledger", &["10.0.0.0/33"], "").0, 2);
+    let why = "10.0.0.0/33: invalid prefix\n";
+    assert_eq!(
+        run("ledger", &["10.0.0.0/33"], "free\n"),
+        (2, String::new(), why.to_owned())
+    );
 }
 
 #[test]
