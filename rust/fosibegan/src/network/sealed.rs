@@ -12,16 +12,35 @@ use core::str::FromStr;
 /// ```
 /// use fosibegan::{AddressSet, Ipv4Network, Network};
 ///
-/// fn has_first<N: Network>(set: &AddressSet<N>, network: N) -> bool {
-///     set.overlaps(network)
+/// /// Takes a network out of a pool, or says that it is not free.
+/// fn take<N: Network>(pool: &mut AddressSet<N>, network: N) -> Result<(), String> {
+///     if !pool.covers(network) {
+///         return Err(format!("{network} is not free"));
+///     }
+///     pool.remove(network);
+///     Ok(())
 /// }
 ///
-/// let set: AddressSet<Ipv4Network> = ["10.0.0.0/8".parse::<Ipv4Network>()?].into();
-/// assert!(has_first(&set, "10.1.0.0/16".parse()?));
-/// # Ok::<(), fosibegan::IpNetworkError>(())
+/// let mut pool: AddressSet<Ipv4Network> = ["10.0.0.0/8".parse::<Ipv4Network>()?].into();
+/// assert_eq!(take(&mut pool, "10.1.0.0/16".parse()?), Ok(()));
+/// assert_eq!(take(&mut pool, "10.1.2.0/24".parse()?), Err("10.1.2.0/24 is not free".to_string()));
+/// # Ok::<(), Box<dyn std::error::Error>>(())
 /// ```
 pub trait Network:
-    Sealed + Addresses<Self> + From<Self::Addr> + FromStr<Err = IpNetworkError>
+    Sealed
+    + Addresses<Self>
+    + From<Self::Addr>
+    + FromStr<Err = IpNetworkError>
+    + Into<IpNetwork>
+    + Copy
+    + Ord
+    + Hash
+    + Debug
+    + Display
+    + Send
+    + Sync
+    + Unpin
+    + 'static
 {
     /// The addresses of these networks, as std has them.
     type Addr: Copy + Ord + Hash + Debug + Display + FromStr + Send + Sync + Unpin + 'static;
@@ -36,9 +55,7 @@ pub trait Network:
 
 /// What sets and maps need of a network. A set or a map has two parts, one for each family; that of
 /// a family which `N` has not stays empty.
-pub trait Sealed:
-    Copy + Ord + Hash + Debug + Display + Into<IpNetwork> + Send + Sync + Unpin + 'static
-{
+pub trait Sealed: Copy {
     /// Whether networks of this type may be of IPv4.
     #[doc(hidden)]
     const HAS_V4: bool;
