@@ -85,6 +85,14 @@ CLONES = {
     "ipnetwork_index": {"AddressIndex", "RouteIndex", "Partition", "Places", "LowHalves", "Ranges", "Answers"},
 }
 
+# By crate, the modules whose functions are short: what another package calls of them it gets without a call, even if it is
+# not optimised as a whole.
+INLINED = {
+    "ipnetwork_addr": {"ipv4", "ipv6", "ipv6_order", "segments"},
+    "ipnetwork_family": {"ipv4", "ipv6"},
+    "ipnetwork_index": {"indexed_network"},
+}
+
 # The lines of `rust.txt` that are of no package.
 KEYS = {"stand_in", "optional", "instead", "left_out"}
 
@@ -389,6 +397,13 @@ class Source:
             head = re.compile(rf"^(?:#\[derive\((.*)\)\]\n)?((?:pub(?:\([a-z]+\))? )?struct {name}\b)", re.M)
             self.text = head.sub(lambda found: f"#[derive(Clone{', ' + found[1] if found[1] else ''})]\n{found[2]}", self.text)
 
+    def inlined(self):
+        """Has each function with a body of a module of `INLINED` be inlined, unless its source says something of it."""
+        if self.file.stem in INLINED.get(self.crate, ()):
+            head = re.compile(r"^((?:[ \t]*#\[[^\n]*\n)*)([ \t]*)((?:pub(?:\([a-z]+\))? )?fn .*\{$)", re.M)
+            new = lambda found: found[0] if "#[inline" in found[1] else f"{found[1]}{found[2]}#[inline]\n{found[2]}{found[3]}"
+            self.text = head.sub(new, self.text)
+
     def examples(self):
         """The examples of comments, as rustdoc runs them: with names in scope, and without a handle."""
         out, body = [], None
@@ -474,6 +489,7 @@ class Source:
         self.modules()
         self.laws()
         self.clones()
+        self.inlined()
         self.text = code_sub(r"\bprove!\(", "debug_assert!(", self.text)
         self.text = CUT.sub(uncut, self.text)
         self.text = BUILD.sub(r"\1 (plain Rust, made of proved sources)", self.text)

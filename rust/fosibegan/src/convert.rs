@@ -28,10 +28,10 @@ pub(crate) fn told_v4(address: core_addr::Ipv4Addr) -> Ipv4Addr {
     Ipv4Addr::from_bits(address.into())
 }
 
-/// The address as the core has it: by its segments, since by its number takes longer.
+/// The address as the core has it: by its number, since by its segments takes longer.
 #[inline]
 pub(crate) fn asked_v6(address: Ipv6Addr) -> core_addr::Ipv6Addr {
-    address.segments().into()
+    address.to_bits().into()
 }
 
 /// The address that the core answers.

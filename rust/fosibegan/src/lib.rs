@@ -96,9 +96,9 @@
 //!   `range`, `contains`, `size`, `nth`, `is_subnet_of`, `is_supernet_of`, `overlaps`, `block`,
 //!   `supernet`, `next`, `previous`, comparisons, and the prefix lengths of masks. A test compares
 //!   each with the core, at every prefix length, at both ends of the address space, and on ten
-//!   million random pairs. The addresses of `iter` and `hosts`, and the values and the order of maps,
-//!   are handled here too. Tests compare them, and sets, with a `BTreeSet` of addresses and with
-//!   linear searches.
+//!   million random pairs. The addresses of `iter` and `hosts`, the ranges and the symmetric
+//!   difference of sets, and the values and the order of maps are handled here too. Tests compare
+//!   them, and sets, with a `BTreeSet` of addresses and with linear searches.
 //! * **Trusted:** `rustc`, LLVM, `core` and `alloc`, and the script that removes the contracts.
 //!   This crate forbids unsafe code. The core has a small module of it, for vector instructions;
 //!   `RUSTFLAGS="--cfg portable"` leaves all but one line of it out.

@@ -523,6 +523,9 @@ fn idioms() {
         "sizes as numbers":
             (v4("10.0.0.0/8").size() as usize, u64::from(v4("10.0.0.0/8").size()),
                 f64::from(v4("10.0.0.0/30").size()), v6("::/64").size() as f64);
+        "sizes beside what becomes a number":
+            (v6("::/120").size() == "256".parse().unwrap(), v6("::/120").size() < 300_u32.into(),
+                v4("10.0.0.0/24").size() >= 7_u8.into(), "1".parse().map_or(true, |it| 2_u128 > it));
         "groups": v4s().into_iter().fold(BTreeMap::<u8, Vec<_>>::new(), |mut groups, each| {
             groups.entry(each.prefix()).or_default().push(each);
             groups

@@ -1,5 +1,6 @@
 //! Maps of iterators, and iterators of maps.
 
+use super::parts::Tables;
 use super::{FrozenMap, IntoIter, Iter, IterMut, PrefixMap};
 use crate::Network;
 
@@ -7,6 +8,10 @@ impl<N: Network, V> Extend<(N, V)> for PrefixMap<N, V> {
     /// Inserts each network with its value. If a network comes more than once, the last value
     /// counts.
     fn extend<I: IntoIterator<Item = (N, V)>>(&mut self, entries: I) {
+        if self.is_empty() {
+            *self = entries.into_iter().collect();
+            return;
+        }
         for (network, value) in entries {
             self.insert(network, value);
         }
@@ -17,9 +22,9 @@ impl<N: Network, V> FromIterator<(N, V)> for PrefixMap<N, V> {
     /// Makes a map of networks with their values. If a network comes more than once, the last value
     /// counts.
     fn from_iter<I: IntoIterator<Item = (N, V)>>(entries: I) -> Self {
-        let mut map = PrefixMap::default();
-        map.extend(entries);
-        map
+        PrefixMap {
+            parts: Tables::of_entries(entries.into_iter()),
+        }
     }
 }
 

@@ -3,7 +3,7 @@
 /// How many blocks of one family there are of each prefix length.
 #[derive(Clone, Copy, Debug)]
 pub(super) struct Lengths {
-    counts: [u32; 129],
+    counts: [u64; 129],
 }
 
 impl Lengths {

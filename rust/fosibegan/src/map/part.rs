@@ -53,19 +53,23 @@ impl<C: IndexedNetwork> Places<C> for Index<C> {
 }
 
 /// The places of values, and how many blocks there are of each prefix length.
+#[derive(Clone)]
 pub(super) struct Finder<P> {
     pub(super) places: P,
     pub(super) lengths: Lengths,
 }
 
-/// The entries of one family: a list, in which an entry keeps its place until another one is
-/// removed, and what says where an entry stands in it.
+/// The entries of one family: a list of blocks and one of their values, in which an entry keeps its
+/// place until another one is removed, and what says where an entry stands in them. The values have
+/// a list of their own, since a look-up reads nothing else.
+#[derive(Clone)]
 pub(super) struct Part<C, V, P> {
     /// None before the first entry, since it takes more than 2 KiB.
     finder: Option<Box<Finder<P>>>,
     /// The places in the order of networks.
     order: BTreeMap<C, u32>,
-    entries: Vec<(C, V)>,
+    blocks: Vec<C>,
+    values: Vec<V>,
 }
 
 /// The network with its host bits cleared.
@@ -87,17 +91,18 @@ impl<C, V, P> Part<C, V, P> {
         Part {
             finder: None,
             order: BTreeMap::new(),
-            entries: Vec::new(),
+            blocks: Vec::new(),
+            values: Vec::new(),
         }
     }
 
     #[inline]
     pub(super) fn len(&self) -> usize {
-        self.entries.len()
+        self.values.len()
     }
 
     pub(super) fn iter(&self) -> PartIter<'_, C, V> {
-        PartIter::new(self.order.iter(), &self.entries)
+        PartIter::new(self.order.iter(), &self.values)
     }
 
     /// The entries in order, to be changed.
@@ -105,11 +110,8 @@ impl<C, V, P> Part<C, V, P> {
     where
         C: IndexedNetwork,
     {
-        let mut entries: Vec<_> = self
-            .entries
-            .iter_mut()
-            .map(|(block, value)| (*block, value))
-            .collect();
+        let blocks = self.blocks.iter().copied();
+        let mut entries: Vec<_> = blocks.zip(&mut self.values).collect();
         entries.sort_unstable_by_key(|entry| entry.0);
         entries
     }
@@ -119,19 +121,19 @@ impl<C, V, P> Part<C, V, P> {
     where
         C: IndexedNetwork,
     {
-        let mut entries = self.entries;
+        let mut entries: Vec<_> = self.blocks.into_iter().zip(self.values).collect();
         entries.sort_unstable_by_key(|entry| entry.0);
         entries
     }
 
     #[inline]
     pub(super) fn at(&self, place: usize) -> &V {
-        &self.entries[place].1
+        &self.values[place]
     }
 
     #[inline]
     pub(super) fn at_mut(&mut self, place: usize) -> &mut V {
-        &mut self.entries[place].1
+        &mut self.values[place]
     }
 }
 
@@ -156,7 +158,7 @@ impl<C: IndexedNetwork, V, P: Places<C>> Part<C, V, P> {
             Some(finder) => PartCovering::new(
                 finder.places.table(),
                 &finder.lengths,
-                &self.entries,
+                &self.values,
                 network,
             ),
             None => PartCovering::none(),
@@ -167,7 +169,7 @@ impl<C: IndexedNetwork, V, P: Places<C>> Part<C, V, P> {
     pub(super) fn covered_by(&self, network: C) -> PartRange<'_, C, V> {
         let first = block_of(network);
         let last = C::block_at(network.broadcast(), C::WIDTH);
-        PartRange::new(self.order.range(first..=last), &self.entries)
+        PartRange::new(self.order.range(first..=last), &self.values)
     }
 }
 
@@ -178,14 +180,15 @@ impl<C: IndexedNetwork, V> Part<C, V, Table<C>> {
         match self.order.entry(block) {
             Entry::Occupied(known) => {
                 let place = *known.get() as usize;
-                Some(mem::replace(&mut self.entries[place].1, value))
+                Some(mem::replace(&mut self.values[place], value))
             }
             Entry::Vacant(new) => {
-                let place = place_behind(self.entries.len());
+                let place = place_behind(self.values.len());
                 let finder = self.finder.get_or_insert_with(Finder::boxed);
                 or_abort(finder.places.insert(block, place));
                 finder.lengths.add(block.prefix());
-                self.entries.push((block, value));
+                self.blocks.push(block);
+                self.values.push(value);
                 new.insert(place);
                 None
             }
@@ -199,13 +202,14 @@ impl<C: IndexedNetwork, V> Part<C, V, Table<C>> {
         let place = finder.places.remove(block)?;
         finder.lengths.remove(block.prefix());
         self.order.remove(&block);
-        let removed = self.entries.swap_remove(place as usize);
+        self.blocks.swap_remove(place as usize);
+        let value = self.values.swap_remove(place as usize);
         // The entry that was the last stands here now, unless it is the one that is removed.
-        if let Some((moved, _)) = self.entries.get(place as usize) {
+        if let Some(moved) = self.blocks.get(place as usize) {
             or_abort(finder.places.insert(*moved, place));
             self.order.insert(*moved, place);
         }
-        Some(removed)
+        Some((block, value))
     }
 
     /// Asks of each entry, in order, whether it stays.
@@ -216,18 +220,19 @@ impl<C: IndexedNetwork, V> Part<C, V, Table<C>> {
         };
         let Refused { part, blocks } = &mut refused;
         for (block, place) in &part.order {
-            if !keep(*block, &mut part.entries[*place as usize].1) {
+            if !keep(*block, &mut part.values[*place as usize]) {
                 blocks.push(*block);
             }
         }
     }
 
     pub(super) fn freeze(self) -> Part<C, V, Index<C>> {
-        let finder = self.finder.filter(|_| !self.entries.is_empty());
+        let finder = self.finder.filter(|_| !self.values.is_empty());
         Part {
             finder: finder.map(|finder| finder.freeze()),
             order: self.order,
-            entries: self.entries,
+            blocks: self.blocks,
+            values: self.values,
         }
     }
 }
@@ -243,7 +248,8 @@ impl<C: IndexedNetwork, V> Part<C, V, Index<C>> {
         Part {
             finder,
             order: self.order,
-            entries: self.entries,
+            blocks: self.blocks,
+            values: self.values,
         }
     }
 }
@@ -265,47 +271,34 @@ impl<C: IndexedNetwork> Finder<Table<C>> {
     }
 }
 
-/// The table of the places of a map, again.
-fn table_again<C: IndexedNetwork>(order: &BTreeMap<C, u32>) -> Table<C> {
-    let mut table = PrefixTable::new(Global);
-    for (block, place) in order {
-        or_abort(table.insert(*block, *place));
-    }
-    table
-}
-
-impl<C: IndexedNetwork, V: Clone> Clone for Part<C, V, Table<C>> {
-    fn clone(&self) -> Self {
-        let entries = self.entries.clone();
-        let finder = self.finder.as_ref().map(|finder| {
-            Box::new(Finder {
-                places: table_again(&self.order),
-                lengths: finder.lengths,
-            })
-        });
-        Part {
-            finder,
-            order: self.order.clone(),
-            entries,
+impl<C: IndexedNetwork, V> Part<C, V, Table<C>> {
+    /// Makes the part of entries in any order. Of several with one block, the last one counts.
+    pub(super) fn of_entries(mut entries: Vec<(C, V)>) -> Self {
+        for (network, _) in &mut entries {
+            *network = block_of(*network);
         }
-    }
-}
-
-impl<C: IndexedNetwork, V: Clone> Clone for Part<C, V, Index<C>> {
-    fn clone(&self) -> Self {
-        let entries = self.entries.clone();
-        let finder = self.finder.as_ref().map(|finder| {
-            Finder {
-                places: table_again(&self.order),
-                lengths: finder.lengths,
+        entries.sort_by_key(|entry| entry.0);
+        entries.dedup_by(|later, kept| {
+            let is_same = later.0 == kept.0;
+            if is_same {
+                mem::swap(later, kept);
             }
-            .freeze()
+            is_same
         });
-        Part {
-            finder,
-            order: self.order.clone(),
-            entries,
+        let mut part = Part::new();
+        if entries.is_empty() {
+            return part;
         }
+        place_behind(entries.len() - 1);
+        let mut finder = Finder::boxed();
+        for (place, (block, _)) in (0..).zip(&entries) {
+            or_abort(finder.places.insert(*block, place));
+            finder.lengths.add(block.prefix());
+        }
+        part.finder = Some(finder);
+        (part.blocks, part.values) = entries.into_iter().unzip();
+        part.order = part.blocks.iter().copied().zip(0..).collect();
+        part
     }
 }
 

@@ -9,30 +9,30 @@ use fosibegan_core::IndexedNetwork;
 /// All entries, in order.
 pub(super) struct PartIter<'a, C, V> {
     order: btree_map::Iter<'a, C, u32>,
-    entries: &'a [(C, V)],
+    values: &'a [V],
 }
 
 impl<'a, C, V> PartIter<'a, C, V> {
-    pub(super) fn new(order: btree_map::Iter<'a, C, u32>, entries: &'a [(C, V)]) -> Self {
-        PartIter { order, entries }
+    pub(super) fn new(order: btree_map::Iter<'a, C, u32>, values: &'a [V]) -> Self {
+        PartIter { order, values }
     }
 }
 
 /// Those of a range of blocks.
 pub(super) struct PartRange<'a, C, V> {
     order: btree_map::Range<'a, C, u32>,
-    entries: &'a [(C, V)],
+    values: &'a [V],
 }
 
 impl<'a, C, V> PartRange<'a, C, V> {
-    pub(super) fn new(order: btree_map::Range<'a, C, u32>, entries: &'a [(C, V)]) -> Self {
-        PartRange { order, entries }
+    pub(super) fn new(order: btree_map::Range<'a, C, u32>, values: &'a [V]) -> Self {
+        PartRange { order, values }
     }
 
     pub(super) fn none() -> Self {
         PartRange {
             order: btree_map::Range::default(),
-            entries: &[],
+            values: &[],
         }
     }
 }
@@ -43,7 +43,7 @@ macro_rules! in_order {
             fn clone(&self) -> Self {
                 $name {
                     order: self.order.clone(),
-                    entries: self.entries,
+                    values: self.values,
                 }
             }
         }
@@ -54,7 +54,7 @@ macro_rules! in_order {
             #[inline]
             fn next(&mut self) -> Option<(C, &'a V)> {
                 let (block, place) = self.order.next()?;
-                Some((*block, &self.entries[*place as usize].1))
+                Some((*block, &self.values[*place as usize]))
             }
 
             fn size_hint(&self) -> (usize, Option<usize>) {
@@ -66,7 +66,7 @@ macro_rules! in_order {
             #[inline]
             fn next_back(&mut self) -> Option<Self::Item> {
                 let (block, place) = self.order.next_back()?;
-                Some((*block, &self.entries[*place as usize].1))
+                Some((*block, &self.values[*place as usize]))
             }
         }
     };
@@ -81,7 +81,7 @@ impl<C: Copy, V> ExactSizeIterator for PartIter<'_, C, V> {}
 /// some block has.
 pub(super) struct PartCovering<'a, C: IndexedNetwork, V> {
     found_by: Option<(&'a Table<C>, &'a Lengths)>,
-    entries: &'a [(C, V)],
+    values: &'a [V],
     addr: C::Addr,
     prefixes: Range<u8>,
 }
@@ -90,12 +90,12 @@ impl<'a, C: IndexedNetwork, V> PartCovering<'a, C, V> {
     pub(super) fn new(
         table: &'a Table<C>,
         lengths: &'a Lengths,
-        entries: &'a [(C, V)],
+        values: &'a [V],
         network: C,
     ) -> Self {
         PartCovering {
             found_by: Some((table, lengths)),
-            entries,
+            values,
             addr: network.ip(),
             prefixes: 0..network.prefix() + 1,
         }
@@ -104,7 +104,7 @@ impl<'a, C: IndexedNetwork, V> PartCovering<'a, C, V> {
     pub(super) fn none() -> Self {
         PartCovering {
             found_by: None,
-            entries: &[],
+            values: &[],
             addr: C::whole().ip(),
             prefixes: 0..0,
         }
@@ -118,7 +118,7 @@ impl<'a, C: IndexedNetwork, V> PartCovering<'a, C, V> {
         }
         let block = C::block_at(self.addr, prefix);
         let place = table.get(block)?;
-        Some((block, &self.entries[place as usize].1))
+        Some((block, &self.values[place as usize]))
     }
 }
 

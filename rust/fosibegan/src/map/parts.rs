@@ -5,6 +5,7 @@ use super::part::{Index, Part, Places, Table};
 use super::part_iter::{PartCovering, PartIter, PartRange};
 use crate::convert::{CoreV4, CoreV6, asked_v4, asked_v6};
 use crate::{IpNetwork, Ipv4Network, Ipv6Network, Network};
+use alloc::vec::Vec;
 use core::marker::PhantomData;
 use core::net::{IpAddr, Ipv4Addr, Ipv6Addr};
 
@@ -216,6 +217,22 @@ impl<V, P4: Places<CoreV4>, P6: Places<CoreV6>> Parts<IpNetwork, V, P4, P6> {
 }
 
 impl<N: Network, V> Tables<N, V> {
+    /// Makes the parts of entries in any order. Of several with one block, the last one counts.
+    pub(super) fn of_entries(entries: impl Iterator<Item = (N, V)>) -> Self {
+        let (mut v4, mut v6) = (Vec::new(), Vec::new());
+        for (network, value) in entries {
+            match network.either() {
+                IpNetwork::V4(network) => v4.push((network.asked(), value)),
+                IpNetwork::V6(network) => v6.push((network.asked(), value)),
+            }
+        }
+        Parts {
+            v4: Part::of_entries(v4),
+            v6: Part::of_entries(v6),
+            networks: PhantomData,
+        }
+    }
+
     pub(super) fn insert(&mut self, network: N, value: V) -> Option<V> {
         match network.either() {
             IpNetwork::V4(network) => self.v4.insert(network.asked(), value),

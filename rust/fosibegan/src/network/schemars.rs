@@ -1,5 +1,5 @@
 //! With the feature `schemars`: the JSON schema of a network of one family is that of a string with
-//! a pattern, and the schema of [`IpNetwork`] has exactly one of the two.
+//! a pattern, and the schema of [`IpNetwork`] is that of exactly one of the two (`oneOf`).
 
 use crate::{IpNetwork, Ipv4Network, Ipv6Network};
 use alloc::boxed::Box;

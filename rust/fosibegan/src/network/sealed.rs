@@ -17,14 +17,18 @@ use core::str::FromStr;
 /// ```
 /// use fosibegan::{AddressSet, Ipv4Network, Network};
 ///
-/// /// The networks of the set that have a prefix length of at least `least`.
-/// fn small<N: Network>(set: &AddressSet<N>, least: u8) -> Vec<N> {
-///     set.networks().filter(|network| network.prefix() >= least).collect()
+/// /// Takes a network out of a pool, or says that it is not free.
+/// fn take<N: Network>(pool: &mut AddressSet<N>, network: N) -> Result<(), String> {
+///     if !pool.covers(network) {
+///         return Err(format!("{network} is not free"));
+///     }
+///     pool.remove(network);
+///     Ok(())
 /// }
 ///
-/// let networks: [Ipv4Network; 2] = ["10.0.0.0/8".parse()?, "192.0.2.0/24".parse()?];
-/// let set = AddressSet::<Ipv4Network>::from(networks);
-/// assert_eq!(small(&set, 16), networks[1..]);
+/// let mut pool: AddressSet<Ipv4Network> = ["10.0.0.0/8".parse::<Ipv4Network>()?].into();
+/// assert_eq!(take(&mut pool, "10.1.0.0/16".parse()?), Ok(()));
+/// assert_eq!(take(&mut pool, "10.1.2.0/24".parse()?), Err("10.1.2.0/24 is not free".to_string()));
 /// # Ok::<(), Box<dyn std::error::Error>>(())
 /// ```
 pub trait Network:

@@ -14,8 +14,8 @@ const LOWER: u128 = 374_607_431_768_211_456;
 /// returns. It is always exact.
 ///
 /// IPv6 has 2<sup>128</sup> addresses, one more than the greatest `u128`, and IPv4 has
-/// 2<sup>32</sup> others. So a count is a type of its own: it is compared with numbers, printed in
-/// decimal, and converted by `try_from` where it fits.
+/// 2<sup>32</sup> others. So a count is a type of its own: it is compared with numbers that stand on
+/// the right, printed in decimal, and converted by `try_from` where it fits.
 ///
 /// # Examples
 ///
@@ -69,6 +69,8 @@ impl From<u128> for AddressCount {
     }
 }
 
+// Not the other way round: in a program that has this crate somewhere below it, `number == text.parse()?`
+// and `number < other.into()` would then no longer say which type is meant.
 impl PartialEq<u128> for AddressCount {
     fn eq(&self, number: &u128) -> bool {
         *self == Self::from(*number)
@@ -78,18 +80,6 @@ impl PartialEq<u128> for AddressCount {
 impl PartialOrd<u128> for AddressCount {
     fn partial_cmp(&self, number: &u128) -> Option<Ordering> {
         Some(self.cmp(&Self::from(*number)))
-    }
-}
-
-impl PartialEq<AddressCount> for u128 {
-    fn eq(&self, count: &AddressCount) -> bool {
-        count == self
-    }
-}
-
-impl PartialOrd<AddressCount> for u128 {
-    fn partial_cmp(&self, count: &AddressCount) -> Option<Ordering> {
-        Some(AddressCount::from(*self).cmp(count))
     }
 }
 

@@ -32,6 +32,7 @@ impl Ipv4Addr {
     /// let address = Ipv4Addr::new(192, 0, 2, 1);
     /// assert_eq!(address, Ipv4Addr::from(0xc000_0201));
     /// ```
+    #[inline]
     pub fn new(a: u8, b: u8, c: u8, d: u8) -> Self {
         Ipv4Addr {
             number: u32::from_be_bytes([a, b, c, d]),
@@ -44,6 +45,7 @@ impl Ipv4Addr {
     /// # use fosibegan_core::in_examples::*;
     /// assert_eq!(Ipv4Addr::from(0xc000_0201).octets(), [192, 0, 2, 1]);
     /// ```
+    #[inline]
     pub fn octets(&self) -> [u8; 4] {
         self.number.to_be_bytes()
     }
@@ -57,6 +59,7 @@ impl Ipv4Addr {
     /// assert_eq!(Ipv4Addr::read_bytes(b"192.0.2.1"), Ok(Ipv4Addr::new(192, 0, 2, 1)));
     /// assert_eq!(Ipv4Addr::read_bytes(b"192.0.2.256"), Err(AddrParseError::Ipv4));
     /// ```
+    #[inline]
     pub fn read_bytes(text: &[u8]) -> Result<Self, AddrParseError> {
         match read_octets(text) {
             Some(octets) => Ok(Ipv4Addr::from(octets)),
@@ -71,6 +74,7 @@ impl Ipv4Addr {
     /// let address = Ipv4Addr::new(192, 0, 2, 1);
     /// assert_eq!(address.canonical().as_str(), "192.0.2.1");
     /// ```
+    #[inline]
     pub fn canonical(&self) -> ArrayString<ADDRESS_TEXT_CAPACITY> {
         let [a, b, c, d] = self.octets();
         let mut text = ArrayString::new();
@@ -87,6 +91,7 @@ impl Ipv4Addr {
 
 impl From<u32> for Ipv4Addr {
     /// Creates the address with this number.
+    #[inline]
     fn from(number: u32) -> Self {
         Ipv4Addr { number }
     }
@@ -94,6 +99,7 @@ impl From<u32> for Ipv4Addr {
 
 impl From<[u8; 4]> for Ipv4Addr {
     /// Creates the address with these octets, highest first.
+    #[inline]
     fn from(octets: [u8; 4]) -> Self {
         let [a, b, c, d] = octets;
         Ipv4Addr::new(a, b, c, d)
@@ -102,6 +108,7 @@ impl From<[u8; 4]> for Ipv4Addr {
 
 impl From<Ipv4Addr> for u32 {
     /// Returns the number of the address.
+    #[inline]
     fn from(address: Ipv4Addr) -> Self {
         address.number
     }
@@ -111,12 +118,14 @@ impl FromStr for Ipv4Addr {
     type Err = AddrParseError;
 
     /// The same as `read_bytes`.
+    #[inline]
     fn from_str(text: &str) -> Result<Self, AddrParseError> {
         Ipv4Addr::read_bytes(text.as_bytes())
     }
 }
 
 impl fmt::Display for Ipv4Addr {
+    #[inline]
     fn fmt(&self, f: &mut fmt::Formatter<'_>) -> fmt::Result {
         f.write_str(self.canonical().as_str())
     }

@@ -35,6 +35,7 @@ impl Ipv6Addr {
     /// let address = Ipv6Addr::new(0x2001, 0xdb8, 0, 0, 0, 0, 0, 1);
     /// assert_eq!(address.canonical().as_str(), "2001:db8::1");
     /// ```
+    #[inline]
     pub fn new(a: u16, b: u16, c: u16, d: u16, e: u16, f: u16, g: u16, h: u16) -> Self {
         Ipv6Addr {
             low_first: [h, g, f, e, d, c, b, a],
@@ -51,6 +52,7 @@ impl Ipv6Addr {
     /// # Ok(())
     /// # });
     /// ```
+    #[inline]
     pub fn segments(&self) -> [u16; 8] {
         segments::reversed(&self.low_first)
     }
@@ -65,6 +67,7 @@ impl Ipv6Addr {
     /// # Ok(())
     /// # });
     /// ```
+    #[inline]
     pub fn octets(&self) -> [u8; 16] {
         segments::octets_high_first(&self.segments())
     }
@@ -115,6 +118,7 @@ impl Ipv6Addr {
     }
 
     /// Compares the address with another: first the high halves, then the low ones.
+    #[inline]
     pub(crate) fn order(&self, other: &Ipv6Addr) -> Ordering {
         let (high, low) = segments::halves(&self.low_first);
         let (other_high, other_low) = segments::halves(&other.low_first);
@@ -125,6 +129,7 @@ impl Ipv6Addr {
     }
 
     /// Returns the sixteen octets, lowest first.
+    #[inline]
     pub(crate) fn octets_low_first(&self) -> [u8; 16] {
         segments::octets_low_first(&self.segments())
     }
@@ -140,6 +145,7 @@ fn halves_of(number: u128) -> (u64, u64) {
 
 impl From<u128> for Ipv6Addr {
     /// Creates the address with this number.
+    #[inline]
     fn from(number: u128) -> Self {
         let (high, low) = halves_of(number);
         Ipv6Addr::from_halves(high, low)
@@ -148,6 +154,7 @@ impl From<u128> for Ipv6Addr {
 
 impl From<[u16; 8]> for Ipv6Addr {
     /// Creates the address with these groups, highest first.
+    #[inline]
     fn from(segments: [u16; 8]) -> Self {
         Ipv6Addr {
             low_first: segments::reversed(&segments),
@@ -157,6 +164,7 @@ impl From<[u16; 8]> for Ipv6Addr {
 
 impl From<Ipv6Addr> for u128 {
     /// Returns the number of the address.
+    #[inline]
     fn from(address: Ipv6Addr) -> Self {
         let (high, low) = segments::halves(&address.low_first);
         segments::number_of_halves(high, low)
@@ -167,12 +175,14 @@ impl FromStr for Ipv6Addr {
     type Err = AddrParseError;
 
     /// The same as `read_bytes`.
+    #[inline]
     fn from_str(text: &str) -> Result<Self, AddrParseError> {
         Ipv6Addr::read_bytes(text.as_bytes())
     }
 }
 
 impl fmt::Display for Ipv6Addr {
+    #[inline]
     fn fmt(&self, f: &mut fmt::Formatter<'_>) -> fmt::Result {
         f.write_str(self.canonical().as_str())
     }

@@ -4,18 +4,21 @@
 //! they make up.
 
 /// Returns the segments in reverse order.
+#[inline]
 pub(crate) fn reversed(segments: &[u16; 8]) -> [u16; 8] {
     let [a, b, c, d, e, f, g, h] = *segments;
     [h, g, f, e, d, c, b, a]
 }
 
 /// Returns the high and the low half of an address, 64 bits each, from its segments, lowest first.
+#[inline]
 pub(crate) fn halves(low_first: &[u16; 8]) -> (u64, u64) {
     let [h, g, f, e, d, c, b, a] = *low_first;
     (half(a, b, c, d), half(e, f, g, h))
 }
 
 /// Returns the number that four segments make up, highest first.
+#[inline]
 pub(crate) fn half(a: u16, b: u16, c: u16, d: u16) -> u64 {
     let two = u64::from(a) * 0x1_0000 + u64::from(b);
     (two * 0x1_0000 + u64::from(c)) * 0x1_0000 + u64::from(d)
@@ -31,11 +34,13 @@ pub(crate) fn halves_of_number(number: u128) -> (u64, u64) {
 }
 
 /// Returns the number with these halves.
+#[inline]
 pub(crate) fn number_of_halves(high: u64, low: u64) -> u128 {
     u128::from(high) * HALF + u128::from(low)
 }
 
 /// Returns the segments of the address with these halves, lowest first.
+#[inline]
 pub(crate) fn low_first_of(high: u64, low: u64) -> [u16; 8] {
     let [h, g, f, e] = half_low_first(low);
     let [d, c, b, a] = half_low_first(high);
@@ -43,6 +48,7 @@ pub(crate) fn low_first_of(high: u64, low: u64) -> [u16; 8] {
 }
 
 /// Returns the four segments of a half, lowest first.
+#[inline]
 fn half_low_first(half: u64) -> [u16; 4] {
     [
         (half % 0x1_0000) as u16,
@@ -53,6 +59,7 @@ fn half_low_first(half: u64) -> [u16; 4] {
 }
 
 /// Returns the sixteen octets, lowest first, of the address with these segments, highest first.
+#[inline]
 pub(crate) fn octets_low_first(segments: &[u16; 8]) -> [u8; 16] {
     let [a, b, c, d, e, f, g, h] = *segments;
     [
@@ -76,6 +83,7 @@ pub(crate) fn octets_low_first(segments: &[u16; 8]) -> [u8; 16] {
 }
 
 /// Returns the sixteen octets, highest first, of the address with these segments, highest first.
+#[inline]
 pub(crate) fn octets_high_first(segments: &[u16; 8]) -> [u8; 16] {
     let [a, b, c, d, e, f, g, h] = *segments;
     [
@@ -99,11 +107,13 @@ pub(crate) fn octets_high_first(segments: &[u16; 8]) -> [u8; 16] {
 }
 
 /// Returns the octet of the low bits of a segment.
+#[inline]
 fn low_octet(segment: u16) -> u8 {
     (segment % 256) as u8
 }
 
 /// Returns the octet of the high bits of a segment.
+#[inline]
 fn high_octet(segment: u16) -> u8 {
     (segment / 256) as u8
 }

@@ -11,10 +11,12 @@ use crate::ipnetwork_addr::{ADDRESS_TEXT_CAPACITY, AddrParseError, Ipv4Addr};
 impl Address for Ipv4Addr {
     const WIDTH: u8 = 32;
 
+    #[inline]
     fn read_bytes(text: &[u8]) -> Result<Ipv4Addr, AddrParseError> {
         Ipv4Addr::read_bytes(text)
     }
 
+    #[inline]
     fn read_suffix(text: &[u8]) -> Option<u8> {
         if let Some(prefix) = read_prefix(text, 32) {
             return Some(prefix);
@@ -26,26 +28,32 @@ impl Address for Ipv4Addr {
         }
     }
 
+    #[inline]
     fn refusal() -> AddrParseError {
         AddrParseError::Ipv4
     }
 
+    #[inline]
     fn canonical(&self) -> ArrayString<ADDRESS_TEXT_CAPACITY> {
         Ipv4Addr::canonical(self)
     }
 
+    #[inline]
     fn law_texts() {
     }
 
+    #[inline]
     fn law_of_width(self) {
         let _ = self.octets();
     }
 
+    #[inline]
     fn mask(prefix: u8) -> Ipv4Addr {
         assert!(prefix <= Self::WIDTH, "mask: the prefix length is greater than `WIDTH`");
         Ipv4Addr::from(!host_ones(prefix))
     }
 
+    #[inline]
     fn prefix_of_mask(self) -> Option<u8> {
         let mask = u32::from(self);
         let prefix = (!mask).leading_zeros() as u8;
@@ -56,45 +64,54 @@ impl Address for Ipv4Addr {
         }
     }
 
+    #[inline]
     fn greatest(self, prefix: u8) -> Ipv4Addr {
         assert!(prefix <= Self::WIDTH, "greatest: the prefix length is greater than `WIDTH`");
         let ones = host_ones(prefix);
         Ipv4Addr::from(u32::from(self) & !ones | ones)
     }
 
+    #[inline]
     fn shared_bits(self, other: Ipv4Addr) -> u8 {
         (u32::from(self) ^ u32::from(other)).leading_zeros() as u8
     }
 
+    #[inline]
     fn trailing_zeros(self) -> u8 {
         u32::from(self).trailing_zeros() as u8
     }
 }
 
 impl crate::ipnetwork_family::address::InnerAddress for Ipv4Addr {
+    #[inline]
     fn least(self, prefix: u8) -> Ipv4Addr {
         Ipv4Addr::from(u32::from(self) & !host_ones(prefix))
     }
 
+    #[inline]
     fn agrees(self, other: Ipv4Addr, prefix: u8) -> bool {
         let mask = !host_ones(prefix);
         u32::from(self) & mask == u32::from(other) & mask
     }
 
+    #[inline]
     fn next(self) -> Ipv4Addr {
         Ipv4Addr::from(u32::from(self) + 1)
     }
 
+    #[inline]
     fn previous(self) -> Ipv4Addr {
         Ipv4Addr::from(u32::from(self) - 1)
     }
 
+    #[inline]
     fn plus(self, offset: u128) -> Ipv4Addr {
         Ipv4Addr::from(u32::from(self) + offset as u32)
     }
 }
 
 /// The number with ones in all bits after the first `prefix`.
+#[inline]
 fn host_ones(prefix: u8) -> u32 {
     // In 64 bits, a shift by 32 needs no special case.
     (u64::from(u32::MAX) >> prefix) as u32
@@ -112,6 +129,7 @@ impl Network<Ipv4Addr> {
     /// # Ok(())
     /// # });
     /// ```
+    #[inline]
     pub fn size(&self) -> u32 {
         host_ones(self.prefix()).saturating_add(1)
     }
@@ -128,6 +146,7 @@ impl Network<Ipv4Addr> {
     /// # Ok(())
     /// # });
     /// ```
+    #[inline]
     pub fn nth(self, n: u32) -> Option<Ipv4Addr> {
         if n < self.size() {
             Some(Ipv4Addr::from(u32::from(self.network()) + n))
@@ -143,6 +162,7 @@ impl Network<Ipv4Addr> {
 /// # use fosibegan_core::in_examples::*;
 /// assert_eq!(ipv4_mask_to_prefix(Ipv4Addr::new(255, 255, 240, 0)), Ok(20));
 /// ```
+#[inline]
 pub fn ipv4_mask_to_prefix(mask: Ipv4Addr) -> Result<u8, IpNetworkError> {
     mask_to_prefix(mask)
 }

@@ -13,34 +13,42 @@ use crate::ipnetwork_addr::{ADDRESS_TEXT_CAPACITY, AddrParseError, Ipv6Addr};
 impl Address for Ipv6Addr {
     const WIDTH: u8 = 128;
 
+    #[inline]
     fn read_bytes(text: &[u8]) -> Result<Ipv6Addr, AddrParseError> {
         Ipv6Addr::read_bytes(text)
     }
 
+    #[inline]
     fn read_suffix(text: &[u8]) -> Option<u8> {
         read_prefix(text, 128)
     }
 
+    #[inline]
     fn refusal() -> AddrParseError {
         AddrParseError::Ipv6
     }
 
+    #[inline]
     fn canonical(&self) -> ArrayString<ADDRESS_TEXT_CAPACITY> {
         Ipv6Addr::canonical(self)
     }
 
+    #[inline]
     fn law_texts() {
     }
 
+    #[inline]
     fn law_of_width(self) {
         let _ = self.segments();
     }
 
+    #[inline]
     fn mask(prefix: u8) -> Ipv6Addr {
         assert!(prefix <= Self::WIDTH, "mask: the prefix length is greater than `WIDTH`");
         Ipv6Addr::from(*mask_segments(prefix))
     }
 
+    #[inline]
     fn prefix_of_mask(self) -> Option<u8> {
         let segments = self.segments();
         let prefix = leading_ones(&segments);
@@ -51,43 +59,52 @@ impl Address for Ipv6Addr {
         }
     }
 
+    #[inline]
     fn greatest(self, prefix: u8) -> Ipv6Addr {
         assert!(prefix <= Self::WIDTH, "greatest: the prefix length is greater than `WIDTH`");
         Ipv6Addr::from(filled(&self.segments(), mask_segments(prefix)))
     }
 
+    #[inline]
     fn shared_bits(self, other: Ipv6Addr) -> u8 {
         (u128::from(self) ^ u128::from(other)).leading_zeros() as u8
     }
 
+    #[inline]
     fn trailing_zeros(self) -> u8 {
         u128::from(self).trailing_zeros() as u8
     }
 }
 
 impl crate::ipnetwork_family::address::InnerAddress for Ipv6Addr {
+    #[inline]
     fn least(self, prefix: u8) -> Ipv6Addr {
         Ipv6Addr::from(kept(&self.segments(), mask_segments(prefix)))
     }
 
+    #[inline]
     fn agrees(self, other: Ipv6Addr, prefix: u8) -> bool {
         agree(&self.segments(), &other.segments(), mask_segments(prefix))
     }
 
+    #[inline]
     fn next(self) -> Ipv6Addr {
         Ipv6Addr::from(u128::from(self) + 1)
     }
 
+    #[inline]
     fn previous(self) -> Ipv6Addr {
         Ipv6Addr::from(u128::from(self) - 1)
     }
 
+    #[inline]
     fn plus(self, offset: u128) -> Ipv6Addr {
         Ipv6Addr::from(u128::from(self) + offset)
     }
 }
 
 /// The number with ones in all bits after the first `prefix`.
+#[inline]
 fn host_ones(prefix: u8) -> u128 {
     u128::MAX.checked_shr(u32::from(prefix)).unwrap_or(0)
 }
@@ -104,6 +121,7 @@ impl Network<Ipv6Addr> {
     /// # Ok(())
     /// # });
     /// ```
+    #[inline]
     pub fn size(&self) -> u128 {
         host_ones(self.prefix()).saturating_add(1)
     }
@@ -119,6 +137,7 @@ impl Network<Ipv6Addr> {
     /// # Ok(())
     /// # });
     /// ```
+    #[inline]
     pub fn nth(self, n: u128) -> Option<Ipv6Addr> {
         if n < self.size() {
             Some(Ipv6Addr::from(u128::from(self.network()) + n))
@@ -138,6 +157,7 @@ impl Network<Ipv6Addr> {
 /// # Ok(())
 /// # });
 /// ```
+#[inline]
 pub fn ipv6_mask_to_prefix(mask: Ipv6Addr) -> Result<u8, IpNetworkError> {
     mask_to_prefix(mask)
 }

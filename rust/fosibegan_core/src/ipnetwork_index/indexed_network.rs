@@ -82,26 +82,32 @@ impl IndexedNetwork for Ipv4Network {
 
     type High = u32;
 
+    #[inline]
     fn number_of(addr: Ipv4Addr) -> u32 {
         u32::from(addr)
     }
 
+    #[inline]
     fn greatest() -> u32 {
         u32::MAX
     }
 
+    #[inline]
     fn high_of(number: u32) -> u32 {
         number
     }
 
+    #[inline]
     fn ends_high(_number: u32) -> bool {
         true
     }
 
+    #[inline]
     fn low_word(number: u32) -> u32 {
         number
     }
 
+    #[inline]
     fn has_halves() -> bool {
         false
     }
@@ -112,26 +118,32 @@ impl IndexedNetwork for Ipv6Network {
 
     type High = u64;
 
+    #[inline]
     fn number_of(addr: Ipv6Addr) -> u128 {
         u128::from(addr)
     }
 
+    #[inline]
     fn greatest() -> u128 {
         u128::MAX
     }
 
+    #[inline]
     fn high_of(number: u128) -> u64 {
         (number >> 64) as u64
     }
 
+    #[inline]
     fn ends_high(number: u128) -> bool {
         number % (1 << 64) == (1 << 64) - 1
     }
 
+    #[inline]
     fn low_word(number: u128) -> u32 {
         (number % (1 << 32)) as u32
     }
 
+    #[inline]
     fn has_halves() -> bool {
         true
     }
