@@ -2,7 +2,7 @@
 
 #![cfg(feature = "serde")]
 
-use fosibegan::{AddressSet, IpNetwork, Ipv4Network, Ipv6Network, Network};
+use fosibegan::{AddressSet, FrozenSet, IpNetwork, Ipv4Network, Ipv6Network, Network};
 use serde::de::value::{Error, SeqDeserializer, StrDeserializer};
 use serde::de::{Deserialize, IntoDeserializer as _};
 use serde::ser::{Impossible, Serialize, SerializeSeq, Serializer};
@@ -133,14 +133,20 @@ impl Serializer for Text {
     others!(String);
 }
 
+/// The set of a list, or why there is none. A frozen set is read, and refused, in the same way.
 fn read<'a, N: Network + Deserialize<'a>>(texts: &[&'a str]) -> Result<AddressSet<N>, Error> {
-    let texts = texts.iter().copied();
-    AddressSet::deserialize(SeqDeserializer::<_, Error>::new(texts))
+    let list = || SeqDeserializer::<_, Error>::new(texts.iter().copied());
+    let set = AddressSet::deserialize(list());
+    assert_eq!(FrozenSet::deserialize(list()).map(FrozenSet::into_set), set);
+    set
 }
 
+/// The list of a set, which is that of the frozen set too.
 fn written<N: Network + Serialize>(set: &AddressSet<N>) -> Vec<String> {
     let List(len, texts) = set.serialize(Texts).unwrap();
     assert_eq!(len, Some(texts.len()));
+    let List(frozen_len, frozen_texts) = set.freeze().serialize(Texts).unwrap();
+    assert_eq!((frozen_len, &frozen_texts), (len, &texts));
     texts
 }
 

@@ -3,8 +3,9 @@
 use super::addresses::Addresses;
 use crate::convert::{CoreV4, CoreV6, asked_v4, asked_v6, or_abort};
 use crate::{AddressSet, IpNetwork, Network};
+use core::cmp::Ordering;
 use core::fmt;
-use core::marker::PhantomData;
+use core::hash::{Hash, Hasher};
 use core::net::IpAddr;
 use fosibegan_core::AddressIndex;
 use fosibegan_core::plain_std::alloc::Global;
@@ -12,8 +13,9 @@ use fosibegan_core::plain_std::alloc::Global;
 /// A set of IP addresses that does not change and answers fastest.
 ///
 /// It is made by [`AddressSet::freeze`], by `FrozenSet::from(&set)`, or by collecting an iterator.
-/// To change it, keep the set, change that, and freeze it again, which takes about as long as
-/// copying the set a few times.
+/// [`as_set`](Self::as_set) has the set for everything else than `contains`. To change it, change a
+/// copy of that, or what [`into_set`](Self::into_set) returns, and freeze it again, which takes about
+/// as long as copying the set a few times.
 ///
 /// ```
 /// use fosibegan::{FrozenSet, IpNetwork};
@@ -36,14 +38,13 @@ use fosibegan_core::plain_std::alloc::Global;
 /// # Cost
 ///
 /// [`contains`](Self::contains) takes a few reads if the networks are spread out (8 ns for 10,000
-/// of them), and no longer than a binary search if they are not. Each end of a range of the set
-/// takes 8 to 20 bytes for IPv4, and 20 to 40 for IPv6.
+/// of them), and no longer than a binary search if they are not. Beside the memory of the set, each
+/// end of a range takes 8 to 20 bytes for IPv4, and 20 to 40 for IPv6.
 #[derive(Clone)]
 pub struct FrozenSet<N: Network = IpNetwork> {
     v4: AddressIndex<CoreV4>,
     v6: AddressIndex<CoreV6>,
-    len: usize,
-    family: PhantomData<N>,
+    set: AddressSet<N>,
 }
 
 impl FrozenSet {
@@ -147,7 +148,7 @@ impl<N: Network> FrozenSet<N> {
     /// ```
     #[must_use]
     pub fn is_empty(&self) -> bool {
-        self.len == 0
+        self.set.is_empty()
     }
 
     /// Returns the number of networks that contain exactly the addresses of the set: as many as the
@@ -165,24 +166,65 @@ impl<N: Network> FrozenSet<N> {
     /// ```
     #[must_use]
     pub fn len(&self) -> usize {
-        self.len
+        self.set.len()
     }
-}
 
-impl<N: Network> From<&AddressSet<N>> for FrozenSet<N> {
-    fn from(set: &AddressSet<N>) -> Self {
-        FrozenSet {
-            v4: or_abort(AddressIndex::from_set(Global, &set.v4)),
-            v6: or_abort(AddressIndex::from_set(Global, &set.v6)),
-            len: set.len(),
-            family: PhantomData,
-        }
+    /// Returns the set that was frozen: its networks, and all that can be done with them.
+    ///
+    /// # Examples
+    ///
+    /// ```
+    /// use fosibegan::{FrozenSet, IpNetwork};
+    ///
+    /// let allowed = FrozenSet::from(["10.0.0.0/8".parse::<IpNetwork>()?]);
+    /// assert!(allowed.as_set().covers("10.1.0.0/16".parse()?));
+    /// for network in allowed.as_set() {
+    ///     println!("allowed: {network}");
+    /// }
+    /// # Ok::<(), Box<dyn std::error::Error>>(())
+    /// ```
+    #[must_use]
+    pub fn as_set(&self) -> &AddressSet<N> {
+        &self.set
+    }
+
+    /// Turns it into the set that was frozen. Nothing is copied.
+    ///
+    /// # Examples
+    ///
+    /// ```
+    /// use fosibegan::{FrozenSet, IpNetwork};
+    ///
+    /// let frozen = FrozenSet::from(["10.0.0.0/8".parse::<IpNetwork>()?]);
+    /// let mut set = frozen.into_set();
+    /// assert!(set.insert("192.0.2.0/24".parse()?));
+    /// # Ok::<(), Box<dyn std::error::Error>>(())
+    /// ```
+    #[must_use = "the frozen set is consumed"]
+    pub fn into_set(self) -> AddressSet<N> {
+        self.set
     }
 }
 
 impl<N: Network> From<AddressSet<N>> for FrozenSet<N> {
     fn from(set: AddressSet<N>) -> Self {
-        Self::from(&set)
+        FrozenSet {
+            v4: or_abort(AddressIndex::from_set(Global, &set.v4)),
+            v6: or_abort(AddressIndex::from_set(Global, &set.v6)),
+            set,
+        }
+    }
+}
+
+impl<N: Network> From<&AddressSet<N>> for FrozenSet<N> {
+    fn from(set: &AddressSet<N>) -> Self {
+        Self::from(set.clone())
+    }
+}
+
+impl<N: Network> From<FrozenSet<N>> for AddressSet<N> {
+    fn from(frozen: FrozenSet<N>) -> Self {
+        frozen.into_set()
     }
 }
 
@@ -216,7 +258,36 @@ impl<N: Network> Default for FrozenSet<N> {
 }
 
 impl<N: Network> fmt::Debug for FrozenSet<N> {
+    /// Writes the networks, as in `{10.0.0.0/8, 2001:db8::/32}`.
     fn fmt(&self, f: &mut fmt::Formatter<'_>) -> fmt::Result {
-        f.debug_struct("FrozenSet").finish_non_exhaustive()
+        fmt::Debug::fmt(&self.set, f)
+    }
+}
+
+/// Two sets are equal if they have the same addresses.
+impl<N: Network> PartialEq for FrozenSet<N> {
+    fn eq(&self, other: &Self) -> bool {
+        self.set == other.set
+    }
+}
+
+impl<N: Network> Eq for FrozenSet<N> {}
+
+impl<N: Network> Hash for FrozenSet<N> {
+    fn hash<H: Hasher>(&self, state: &mut H) {
+        self.set.hash(state);
+    }
+}
+
+/// Sets are ordered as the lists of their networks are: by the first network in which they differ.
+impl<N: Network> Ord for FrozenSet<N> {
+    fn cmp(&self, other: &Self) -> Ordering {
+        self.set.cmp(&other.set)
+    }
+}
+
+impl<N: Network> PartialOrd for FrozenSet<N> {
+    fn partial_cmp(&self, other: &Self) -> Option<Ordering> {
+        Some(self.cmp(other))
     }
 }

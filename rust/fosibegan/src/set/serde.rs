@@ -1,6 +1,6 @@
 //! Sets in the formats of serde.
 
-use crate::{AddressSet, AddressSetBuilder, Network};
+use crate::{AddressSet, AddressSetBuilder, FrozenSet, Network};
 use core::fmt;
 use core::marker::PhantomData;
 use serde::de::{Deserialize, Deserializer, SeqAccess, Visitor};
@@ -18,6 +18,20 @@ impl<N: Network + Serialize> Serialize for AddressSet<N> {
 impl<'de, N: Network + Deserialize<'de>> Deserialize<'de> for AddressSet<N> {
     fn deserialize<D: Deserializer<'de>>(deserializer: D) -> Result<Self, D::Error> {
         deserializer.deserialize_seq(NetworksVisitor(PhantomData))
+    }
+}
+
+/// As an [`AddressSet`].
+impl<N: Network + Serialize> Serialize for FrozenSet<N> {
+    fn serialize<S: Serializer>(&self, serializer: S) -> Result<S::Ok, S::Error> {
+        self.as_set().serialize(serializer)
+    }
+}
+
+/// As an [`AddressSet`].
+impl<'de, N: Network + Deserialize<'de>> Deserialize<'de> for FrozenSet<N> {
+    fn deserialize<D: Deserializer<'de>>(deserializer: D) -> Result<Self, D::Error> {
+        AddressSet::deserialize(deserializer).map(FrozenSet::from)
     }
 }
 

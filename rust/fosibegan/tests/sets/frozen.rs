@@ -49,7 +49,9 @@ fn columns<N: Space>(seed: u64) {
                 assert_eq!(answers, expected);
             }
             assert_eq!((frozen.is_empty(), frozen.len()), (size == 0, set.len()));
-            assert_eq!(format!("{frozen:?}"), "FrozenSet { .. }");
+            assert_eq!(format!("{frozen:?}"), format!("{set:?}"));
+            assert_eq!((frozen.as_set(), &frozen.clone().into_set()), (&set, &set));
+            assert_eq!(AddressSet::from(frozen), set);
         }
     }
 }

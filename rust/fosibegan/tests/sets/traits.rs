@@ -42,7 +42,7 @@ fn set(texts: &[&str]) -> AddressSet {
         .collect()
 }
 
-fn hash(set: &AddressSet) -> u64 {
+fn hash(set: &impl Hash) -> u64 {
     let mut hasher = DefaultHasher::new();
     set.hash(&mut hasher);
     hasher.finish()
@@ -127,6 +127,13 @@ fn the_order_is_that_of_the_networks() {
         for (other, others) in sets.iter().zip(&lists) {
             assert_eq!(one.cmp(other), list.cmp(others));
             assert_eq!(one.partial_cmp(other), Some(list.cmp(others)));
+            let (one, other) = (one.freeze(), other.freeze());
+            assert_eq!(one.cmp(&other), list.cmp(others));
+            assert_eq!(one.partial_cmp(&other), Some(list.cmp(others)));
+            assert_eq!(
+                (one == other, hash(&one)),
+                (list == others, hash(one.as_set()))
+            );
         }
     }
 }
