@@ -9,7 +9,7 @@ use core::ops::RangeInclusive;
 ///
 /// A network of one family never contains an address of the other, so an IPv4 network does not
 /// contain an IPv4-mapped IPv6 address such as `::ffff:10.0.0.1`. A server that listens on both
-/// families gets the addresses of IPv4 clients in this form: ask `contains(addr.to_canonical())`, or
+/// families gets the addresses of IPv4 clients in this form: use `contains(addr.to_canonical())`, or
 /// [`contains_mapped`](Self::contains_mapped).
 ///
 /// It is read from the same texts as [`Ipv4Network`] and [`Ipv6Network`], and printed like them.

@@ -10,7 +10,7 @@ impl IpNetwork {
     /// Returns `true` if the address is in the network. No address of the other family is, not even
     /// an IPv4-mapped one.
     ///
-    /// Where IPv4 addresses may come as IPv4-mapped IPv6 addresses, ask
+    /// Where IPv4 addresses may come as IPv4-mapped IPv6 addresses, use
     /// `contains(addr.to_canonical())`, or [`contains_mapped`](Self::contains_mapped).
     ///
     /// # Examples
