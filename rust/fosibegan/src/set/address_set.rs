@@ -105,6 +105,8 @@ impl<N: Network> AddressSet<N> {
 
     /// Returns a builder for a set that is put together piece by piece.
     ///
+    /// A builder for both families is made by [`AddressSetBuilder::new`], which needs no type.
+    ///
     /// # Examples
     ///
     /// ```
