@@ -18,8 +18,10 @@ impl IpNetwork {
     ///
     /// When [`parse`](str::parse) refuses a text, its error is [`IpNetworkError::InvalidAddr`] with
     /// the whole text, whatever is wrong with it. This function tells the causes apart, and repeats
-    /// at most 60 bytes of the text, so that its error can be logged where the text comes from a
-    /// stranger.
+    /// at most 60 bytes of the text, so that its error is short.
+    ///
+    /// These bytes are as they were read, with line breaks and other control characters. To log the
+    /// error of a text from an untrusted source, print it by `{:?}`, which escapes them.
     ///
     /// # Examples
     ///
@@ -32,6 +34,9 @@ impl IpNetwork {
     ///     Some(IpNetworkError::InvalidAddr("10.0.0/8".to_string())),
     /// );
     /// assert_eq!(IpNetwork::cause_of("10.0.0.0/8"), None);
+    ///
+    /// let forged = IpNetwork::cause_of("x\n10.0.0.1 allowed");
+    /// assert_eq!(format!("{forged:?}"), r#"Some(InvalidAddr("x\n10.0.0.1 allowed"))"#);
     /// ```
     #[must_use]
     pub fn cause_of(text: &str) -> Option<IpNetworkError> {
