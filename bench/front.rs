@@ -2,7 +2,7 @@
 //! of the library for C: IPv4 networks of 20 to 28 bits, and IPv6 networks of 36 to 64 bits that share 20. About half of
 //! the addresses are in one. Of a column the time of a row counts.
 
-use fosibegan::{AddressSet, FrozenMap, FrozenSet, Ipv4Network, Ipv6Network, Network, PrefixMap};
+use fosibegan::{AddressSet, AddressSetBuilder, FrozenMap, FrozenSet, Ipv4Network, Ipv6Network, Network, PrefixMap};
 use std::hint::black_box;
 use std::net::{Ipv4Addr, Ipv6Addr};
 use std::time::Instant;
@@ -52,7 +52,7 @@ fn column(name: &str, mut ask: impl FnMut() -> u64) {
 
 fn ask<N: Network>(family: &str, (many, asked): (Vec<N>, Vec<N::Addr>)) {
     let name = |call: &str| format!("{call}, {family}, this crate");
-    let mut builder = AddressSet::<N>::builder();
+    let mut builder = AddressSetBuilder::<N>::default();
     many.iter().for_each(|network| builder.insert(*network));
     let set = builder.build();
     let frozen: FrozenSet<N> = set.freeze();

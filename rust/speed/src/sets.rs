@@ -2,7 +2,7 @@
 
 use crate::call::{Call, compare};
 use crate::measure::Random;
-use fosibegan::{AddressSet, IpNetwork, Ipv4Network, Ipv6Network, Network};
+use fosibegan::{AddressSet, AddressSetBuilder, IpNetwork, Ipv4Network, Ipv6Network, Network};
 use fosibegan_core::ipnetwork_addr as core_addr;
 use fosibegan_core::plain_std::alloc::Global;
 use fosibegan_core::plain_std::vec::Vec as CoreVec;
@@ -174,7 +174,7 @@ fn making<'a>(calls: &mut Vec<Call<'a>>, count: usize) {
         CoreSet::from_networks(list(core)).blocks().len() as u64
     }));
     calls.push(Call::new(&name("by a builder"), OURS, count, move || {
-        let mut builder = AddressSet::<Ipv4Network>::builder();
+        let mut builder = AddressSetBuilder::<Ipv4Network>::default();
         networks.iter().for_each(|network| builder.insert(*network));
         builder.build().len() as u64
     }));

@@ -4,6 +4,7 @@ use super::both::Both;
 use super::part::{Index, Part, Places, Table};
 use super::part_iter::{PartCovering, PartIter, PartRange};
 use crate::convert::{CoreV4, CoreV6, asked_v4, asked_v6};
+use crate::network::sealed::Here;
 use crate::{IpNetwork, Ipv4Network, Ipv6Network, Network};
 use alloc::vec::Vec;
 use core::marker::PhantomData;
@@ -28,12 +29,12 @@ pub(super) enum Place {
 
 #[inline]
 pub(super) fn network_of_v4<N: Network>(block: CoreV4) -> N {
-    N::of_v4(Ipv4Network::told(block))
+    N::of_v4(Ipv4Network::told(block), Here(()))
 }
 
 #[inline]
 pub(super) fn network_of_v6<N: Network>(block: CoreV6) -> N {
-    N::of_v6(Ipv6Network::told(block))
+    N::of_v6(Ipv6Network::told(block), Here(()))
 }
 
 /// The block of this prefix length that has the address. The core has it too, but to take it from
@@ -41,7 +42,7 @@ pub(super) fn network_of_v6<N: Network>(block: CoreV6) -> N {
 #[inline]
 fn block_at_v4<N: Network>(addr: Ipv4Addr, prefix: u8) -> N {
     match Ipv4Network::new_checked(addr, prefix) {
-        Some(network) => N::of_v4(network.block()),
+        Some(network) => N::of_v4(network.block(), Here(())),
         None => unreachable!("a block has a prefix length of its family"),
     }
 }
@@ -50,7 +51,7 @@ fn block_at_v4<N: Network>(addr: Ipv4Addr, prefix: u8) -> N {
 #[inline]
 fn block_at_v6<N: Network>(addr: Ipv6Addr, prefix: u8) -> N {
     match Ipv6Network::new_checked(addr, prefix) {
-        Some(network) => N::of_v6(network.block()),
+        Some(network) => N::of_v6(network.block(), Here(())),
         None => unreachable!("a block has a prefix length of its family"),
     }
 }
@@ -58,8 +59,8 @@ fn block_at_v6<N: Network>(addr: Ipv6Addr, prefix: u8) -> N {
 /// The network with its host bits cleared.
 pub(super) fn block<N: Network>(network: N) -> N {
     match network.either() {
-        IpNetwork::V4(network) => N::of_v4(network.block()),
-        IpNetwork::V6(network) => N::of_v6(network.block()),
+        IpNetwork::V4(network) => N::of_v4(network.block(), Here(())),
+        IpNetwork::V6(network) => N::of_v6(network.block(), Here(())),
     }
 }
 

@@ -1,5 +1,6 @@
 //! Iterators over what is left of a network without another.
 
+use super::sealed::Here;
 use crate::convert::{CoreV4, CoreV6};
 use crate::{IpNetwork, Ipv4Network, Ipv6Network, Network};
 use core::fmt;
@@ -88,12 +89,12 @@ impl<N: Network> Iterator for Exclude<N> {
         match &mut self.inner {
             Inner::V4(blocks) => blocks
                 .next()
-                .map(|block| N::of_v4(Ipv4Network::told(block))),
+                .map(|block| N::of_v4(Ipv4Network::told(block), Here(()))),
             Inner::V6(blocks) => blocks
                 .next()
-                .map(|block| N::of_v6(Ipv6Network::told(block))),
-            Inner::Whole(IpNetwork::V4(network)) => Some(N::of_v4(*network)),
-            Inner::Whole(IpNetwork::V6(network)) => Some(N::of_v6(*network)),
+                .map(|block| N::of_v6(Ipv6Network::told(block), Here(()))),
+            Inner::Whole(IpNetwork::V4(network)) => Some(N::of_v4(*network, Here(()))),
+            Inner::Whole(IpNetwork::V6(network)) => Some(N::of_v6(*network, Here(()))),
         }
     }
 

@@ -1,5 +1,6 @@
 //! Iterators over the hosts of a network.
 
+use super::sealed::Here;
 use crate::{IpNetwork, IpNetworkIterator, Ipv4NetworkIterator, Ipv6NetworkIterator, Network};
 use core::fmt;
 use core::iter::FusedIterator;
@@ -56,8 +57,8 @@ impl<N: Network> Hosts<N> {
     #[inline]
     fn addr(addr: IpAddr) -> N::Addr {
         match addr {
-            IpAddr::V4(addr) => N::address_of_v4(addr),
-            IpAddr::V6(addr) => N::address_of_v6(addr),
+            IpAddr::V4(addr) => N::address_of_v4(addr, Here(())),
+            IpAddr::V6(addr) => N::address_of_v6(addr, Here(())),
         }
     }
 }

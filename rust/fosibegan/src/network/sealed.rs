@@ -204,12 +204,16 @@ pub trait Network:
     fn overlaps(&self, other: Self) -> bool;
 
     #[doc(hidden)]
-    fn address_of_v4(address: Ipv4Addr) -> Self::Addr;
+    fn address_of_v4(address: Ipv4Addr, _: Here) -> Self::Addr;
     #[doc(hidden)]
-    fn address_of_v6(address: Ipv6Addr) -> Self::Addr;
+    fn address_of_v6(address: Ipv6Addr, _: Here) -> Self::Addr;
     #[doc(hidden)]
     fn either_address(address: Self::Addr) -> IpAddr;
 }
+
+/// What a call has to be given that only this crate may make: it answers for one family alone.
+#[derive(Clone, Copy, Debug)]
+pub struct Here(pub(crate) ());
 
 /// What sets and maps need of a network. A set or a map has two parts, one for each family; that of
 /// a family which `N` has not stays empty.
@@ -222,9 +226,9 @@ pub trait Sealed: Sized {
     const HAS_V6: bool;
 
     #[doc(hidden)]
-    fn of_v4(network: Ipv4Network) -> Self;
+    fn of_v4(network: Ipv4Network, _: Here) -> Self;
     #[doc(hidden)]
-    fn of_v6(network: Ipv6Network) -> Self;
+    fn of_v6(network: Ipv6Network, _: Here) -> Self;
     #[doc(hidden)]
     fn either(self) -> IpNetwork;
 }
@@ -258,11 +262,11 @@ impl Sealed for Ipv4Network {
     const HAS_V6: bool = false;
 
     #[inline]
-    fn of_v4(network: Ipv4Network) -> Self {
+    fn of_v4(network: Ipv4Network, _: Here) -> Self {
         network
     }
 
-    fn of_v6(_: Ipv6Network) -> Self {
+    fn of_v6(_: Ipv6Network, _: Here) -> Self {
         other_family()
     }
 
@@ -278,11 +282,11 @@ impl Network for Ipv4Network {
     methods_of_the_type!();
 
     #[inline]
-    fn address_of_v4(address: Ipv4Addr) -> Ipv4Addr {
+    fn address_of_v4(address: Ipv4Addr, _: Here) -> Ipv4Addr {
         address
     }
 
-    fn address_of_v6(_: Ipv6Addr) -> Ipv4Addr {
+    fn address_of_v6(_: Ipv6Addr, _: Here) -> Ipv4Addr {
         other_family()
     }
 
@@ -296,12 +300,12 @@ impl Sealed for Ipv6Network {
     const HAS_V4: bool = false;
     const HAS_V6: bool = true;
 
-    fn of_v4(_: Ipv4Network) -> Self {
+    fn of_v4(_: Ipv4Network, _: Here) -> Self {
         other_family()
     }
 
     #[inline]
-    fn of_v6(network: Ipv6Network) -> Self {
+    fn of_v6(network: Ipv6Network, _: Here) -> Self {
         network
     }
 
@@ -316,12 +320,12 @@ impl Network for Ipv6Network {
 
     methods_of_the_type!();
 
-    fn address_of_v4(_: Ipv4Addr) -> Ipv6Addr {
+    fn address_of_v4(_: Ipv4Addr, _: Here) -> Ipv6Addr {
         other_family()
     }
 
     #[inline]
-    fn address_of_v6(address: Ipv6Addr) -> Ipv6Addr {
+    fn address_of_v6(address: Ipv6Addr, _: Here) -> Ipv6Addr {
         address
     }
 
@@ -336,12 +340,12 @@ impl Sealed for IpNetwork {
     const HAS_V6: bool = true;
 
     #[inline]
-    fn of_v4(network: Ipv4Network) -> Self {
+    fn of_v4(network: Ipv4Network, _: Here) -> Self {
         IpNetwork::V4(network)
     }
 
     #[inline]
-    fn of_v6(network: Ipv6Network) -> Self {
+    fn of_v6(network: Ipv6Network, _: Here) -> Self {
         IpNetwork::V6(network)
     }
 
@@ -357,12 +361,12 @@ impl Network for IpNetwork {
     methods_of_the_type!();
 
     #[inline]
-    fn address_of_v4(address: Ipv4Addr) -> IpAddr {
+    fn address_of_v4(address: Ipv4Addr, _: Here) -> IpAddr {
         IpAddr::V4(address)
     }
 
     #[inline]
-    fn address_of_v6(address: Ipv6Addr) -> IpAddr {
+    fn address_of_v6(address: Ipv6Addr, _: Here) -> IpAddr {
         IpAddr::V6(address)
     }
 

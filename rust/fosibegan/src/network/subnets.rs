@@ -1,5 +1,6 @@
 //! Iterators over the networks of one prefix length in a network.
 
+use super::sealed::Here;
 use crate::{IpNetwork, Ipv4Network, Ipv6Network, Network};
 use core::iter::FusedIterator;
 use core::ops::RangeInclusive;
@@ -57,9 +58,9 @@ impl<N: Network> Subnets<N> {
     fn at(&self, number: u128) -> Option<N> {
         match self.network.either() {
             IpNetwork::V4(network) => subnet_at(network.asked(), self.prefix, number)
-                .map(|network| N::of_v4(Ipv4Network::told(network))),
+                .map(|network| N::of_v4(Ipv4Network::told(network), Here(()))),
             IpNetwork::V6(network) => subnet_at(network.asked(), self.prefix, number)
-                .map(|network| N::of_v6(Ipv6Network::told(network))),
+                .map(|network| N::of_v6(Ipv6Network::told(network), Here(()))),
         }
     }
 }

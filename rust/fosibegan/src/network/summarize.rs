@@ -1,5 +1,6 @@
 //! Iterators over the networks of a range of addresses.
 
+use super::sealed::Here;
 use crate::convert::{CoreV4, CoreV6, asked_v4, asked_v6};
 use crate::{IpNetwork, Ipv4Network, Ipv6Network, Network};
 use core::fmt;
@@ -122,11 +123,11 @@ impl<N: Network> Iterator for Summarize<N> {
             Inner::V4(blocks) => blocks
                 .as_mut()?
                 .next()
-                .map(|block| N::of_v4(Ipv4Network::told(block))),
+                .map(|block| N::of_v4(Ipv4Network::told(block), Here(()))),
             Inner::V6(blocks) => blocks
                 .as_mut()?
                 .next()
-                .map(|block| N::of_v6(Ipv6Network::told(block))),
+                .map(|block| N::of_v6(Ipv6Network::told(block), Here(()))),
         }
     }
 

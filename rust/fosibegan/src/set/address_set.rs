@@ -2,7 +2,7 @@
 
 use super::in_order::blocks_of_range;
 use crate::convert::{CoreV4, CoreV6, or_abort};
-use crate::{AddressSetBuilder, IpNetwork, Network};
+use crate::{IpNetwork, Network};
 use core::marker::PhantomData;
 use core::ops::RangeInclusive;
 use fosibegan_core::AddressSet as CoreSet;
@@ -62,8 +62,8 @@ use fosibegan_core::plain_std::vec::Vec as CoreVec;
 /// ns, and 160 if these are IPv6. A [`FrozenSet`](crate::FrozenSet), made by
 /// [`freeze`](Self::freeze), answers in 8 and 16. Operations on two sets go over both lists once.
 /// [`insert`](Self::insert) and [`remove`](Self::remove) move the networks behind the place that
-/// changes; to build a large set, collect it, `extend` it, or use an [`AddressSetBuilder`], and to
-/// remove many networks, subtract a set of them.
+/// changes; to build a large set, collect it, `extend` it, or use a
+/// [builder](crate::AddressSetBuilder), and to remove many networks, subtract a set of them.
 pub struct AddressSet<N: Network = IpNetwork> {
     pub(super) v4: CoreSet<CoreV4>,
     pub(super) v6: CoreSet<CoreV6>,
@@ -103,33 +103,11 @@ impl<N: Network> AddressSet<N> {
         }
     }
 
-    /// Returns a builder for a set that is put together piece by piece.
-    ///
-    /// A builder for both families is made by [`AddressSetBuilder::new`], which needs no type.
-    ///
-    /// # Examples
-    ///
-    /// ```
-    /// use fosibegan::{AddressSet, Ipv4Network};
-    ///
-    /// let mut builder = AddressSet::<Ipv4Network>::builder();
-    /// for third in 0..=255 {
-    ///     builder.insert(Ipv4Network::new([10, 0, third, 0].into(), 24)?);
-    /// }
-    /// let set = builder.build();
-    /// assert!(set.networks().eq(["10.0.0.0/16".parse()?]));
-    /// # Ok::<(), Box<dyn std::error::Error>>(())
-    /// ```
-    #[must_use]
-    pub fn builder() -> AddressSetBuilder<N> {
-        AddressSetBuilder::default()
-    }
-
     /// Adds the addresses of a network. Returns `true` if any of them was not in the set before.
     ///
     /// Takes a binary search, and moves the networks behind the one that is added. That is slow for
     /// a great many networks: 400,000 in random order take more than ten seconds one by one, and a
-    /// tenth of a second by [`extend`](Extend::extend) or an [`AddressSetBuilder`].
+    /// tenth of a second by [`extend`](Extend::extend) or a [builder](crate::AddressSetBuilder).
     ///
     /// # Examples
     ///

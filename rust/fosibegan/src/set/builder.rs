@@ -46,7 +46,7 @@ pub struct AddressSetBuilder<N: Network = IpNetwork> {
 impl AddressSetBuilder {
     /// Creates an empty builder for a set of both families. It does not allocate.
     ///
-    /// A builder for one family is made by [`AddressSet::builder`] or by `default`.
+    /// A builder for one family is made by `AddressSetBuilder::<Ipv4Network>::default()`.
     ///
     /// # Examples
     ///

@@ -3,6 +3,7 @@
 use super::in_order::InOrder;
 use super::lazy::{lazy, most_after_cuts};
 use crate::convert::{CoreV4, CoreV6};
+use crate::network::sealed::Here;
 use crate::{AddressSet, IpNetwork, Ipv4Network, Ipv6Network, Network};
 use core::fmt;
 use core::iter::FusedIterator;
@@ -80,8 +81,10 @@ impl<N: Network> AddressSet<N> {
     pub fn first_free(&self, within: N, prefix: u8) -> Option<N> {
         let is_large = |free: &N| (*free).into().prefix() <= prefix;
         match self.free_in(within).find(is_large)?.into() {
-            IpNetwork::V4(free) => Ipv4Network::new_checked(free.ip(), prefix).map(N::of_v4),
-            IpNetwork::V6(free) => Ipv6Network::new_checked(free.ip(), prefix).map(N::of_v6),
+            IpNetwork::V4(free) => Ipv4Network::new_checked(free.ip(), prefix)
+                .map(|network| N::of_v4(network, Here(()))),
+            IpNetwork::V6(free) => Ipv6Network::new_checked(free.ip(), prefix)
+                .map(|network| N::of_v6(network, Here(()))),
         }
     }
 

@@ -1,6 +1,7 @@
 //! Iterators over networks of IPv4 and then of IPv6.
 
 use crate::convert::{CoreV4, CoreV6, asked_v4, asked_v6};
+use crate::network::sealed::Here;
 use crate::{Ipv4Network, Ipv6Network, Network};
 use core::net::IpAddr;
 use core::ops::RangeInclusive;
@@ -42,7 +43,7 @@ impl<A: Iterator<Item = CoreV4>, B: Iterator<Item = CoreV6>> InOrder<A, B> {
         if network.is_none() {
             self.v4 = None;
         }
-        network.map(|network| N::of_v4(Ipv4Network::told(network)))
+        network.map(|network| N::of_v4(Ipv4Network::told(network), Here(())))
     }
 
     fn next_of_v6<N: Network>(&mut self) -> Option<N> {
@@ -50,7 +51,7 @@ impl<A: Iterator<Item = CoreV4>, B: Iterator<Item = CoreV6>> InOrder<A, B> {
         if network.is_none() {
             self.v6 = None;
         }
-        network.map(|network| N::of_v6(Ipv6Network::told(network)))
+        network.map(|network| N::of_v6(Ipv6Network::told(network), Here(())))
     }
 }
 

@@ -1,6 +1,7 @@
 //! The networks of a set, one after the other.
 
 use crate::convert::{CoreV4, CoreV6};
+use crate::network::sealed::Here;
 use crate::{AddressSet, IpNetwork, Ipv4Network, Ipv6Network, Network};
 use alloc::vec;
 use core::fmt;
@@ -118,11 +119,11 @@ impl<N: Network> IntoIterator for AddressSet<N> {
 }
 
 fn of_v4<N: Network>(network: CoreV4) -> N {
-    N::of_v4(Ipv4Network::told(network))
+    N::of_v4(Ipv4Network::told(network), Here(()))
 }
 
 fn of_v6<N: Network>(network: CoreV6) -> N {
-    N::of_v6(Ipv6Network::told(network))
+    N::of_v6(Ipv6Network::told(network), Here(()))
 }
 
 /// What both iterators have.

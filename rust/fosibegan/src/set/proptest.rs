@@ -1,5 +1,6 @@
 //! With the feature `proptest`: sets for property tests.
 
+use crate::network::sealed::Here;
 use crate::{AddressSet, AddressSetBuilder, IpNetwork, Ipv4Network, Ipv6Network, Network};
 use alloc::vec::Vec;
 use core::ops::RangeInclusive;
@@ -29,11 +30,12 @@ fn set_of<N: Network>((networks, least): Made<N>) -> AddressSet<N> {
     for network in networks {
         let longer = match network.into() {
             IpNetwork::V4(network) => {
-                Ipv4Network::new_checked(network.ip(), network.prefix().max(least)).map(N::of_v4)
+                Ipv4Network::new_checked(network.ip(), network.prefix().max(least))
+                    .map(|network| N::of_v4(network, Here(())))
             }
             IpNetwork::V6(network) => {
                 Ipv6Network::new_checked(network.ip(), network.prefix().max(4 * least))
-                    .map(N::of_v6)
+                    .map(|network| N::of_v6(network, Here(())))
             }
         };
         longer

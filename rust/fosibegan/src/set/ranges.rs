@@ -1,6 +1,7 @@
 //! The ranges of addresses of a set.
 
 use crate::convert::{CoreV4, CoreV6, told_v4, told_v6};
+use crate::network::sealed::Here;
 use crate::{AddressSet, IpNetwork, Network};
 use core::fmt;
 use core::iter::FusedIterator;
@@ -117,11 +118,11 @@ fn touch<C: AddressSpace>(last: C::Addr, first: C::Addr) -> bool {
 type Ends<C> = (<C as CidrNetwork>::Addr, <C as CidrNetwork>::Addr);
 
 fn of_v4<N: Network>((first, last): Ends<CoreV4>) -> RangeInclusive<N::Addr> {
-    N::address_of_v4(told_v4(first))..=N::address_of_v4(told_v4(last))
+    N::address_of_v4(told_v4(first), Here(()))..=N::address_of_v4(told_v4(last), Here(()))
 }
 
 fn of_v6<N: Network>((first, last): Ends<CoreV6>) -> RangeInclusive<N::Addr> {
-    N::address_of_v6(told_v6(first))..=N::address_of_v6(told_v6(last))
+    N::address_of_v6(told_v6(first), Here(()))..=N::address_of_v6(told_v6(last), Here(()))
 }
 
 impl<N: Network> Iterator for Ranges<'_, N> {

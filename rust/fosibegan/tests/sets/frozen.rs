@@ -1,7 +1,7 @@
 //! Frozen sets, and IPv4-mapped addresses.
 
 use crate::space::{Family, Random, Space};
-use fosibegan::{AddressSet, FrozenSet, IpNetwork, Ipv4Network, Ipv6Network};
+use fosibegan::{AddressSet, AddressSetBuilder, FrozenSet, IpNetwork, Ipv4Network, Ipv6Network};
 use std::net::{IpAddr, Ipv4Addr, Ipv6Addr};
 
 fn columns<N: Space>(seed: u64) {
@@ -18,7 +18,7 @@ fn columns<N: Space>(seed: u64) {
             })
             .collect();
         let set: AddressSet<N> = {
-            let mut builder = AddressSet::builder();
+            let mut builder = AddressSetBuilder::default();
             networks.iter().for_each(|network| builder.insert(*network));
             builder.build()
         };

@@ -1,7 +1,7 @@
 //! Sets of networks of every length, compared with plain intervals.
 
 use crate::space::{Family, Random, Space};
-use fosibegan::{AddressSet, IpNetwork, Ipv4Network, Ipv6Network};
+use fosibegan::{AddressSet, AddressSetBuilder, IpNetwork, Ipv4Network, Ipv6Network};
 
 /// The numbers of the first and the last address of each run, in order, by family.
 #[derive(Clone, Debug, Default, PartialEq)]
@@ -279,7 +279,7 @@ fn questions<N: Space>(seed: u64, count: usize) {
     let mut left = count;
     while left > 0 {
         let size = random.of(&[3, 40, 700, 9_000]);
-        let (mut set, mut runs) = (AddressSet::<N>::builder(), Runs::default());
+        let (mut set, mut runs) = (AddressSetBuilder::<N>::default(), Runs::default());
         for _ in 0..size {
             let family = random.of(N::FAMILIES);
             let prefix = family.width() - random.below(usize::from(family.width()) - 3) as u8;
@@ -354,7 +354,7 @@ fn large_sets_by_each_way() {
             .collect();
         let set: AddressSet = networks.iter().collect();
         let mut one_by_one = AddressSet::new();
-        let mut built = AddressSet::<IpNetwork>::builder();
+        let mut built = AddressSetBuilder::<IpNetwork>::default();
         for network in &networks {
             one_by_one.insert(*network);
             built.insert(*network);

@@ -201,7 +201,7 @@ fn counts_are_exact() {
 #[test]
 fn a_builder_keeps_what_is_distinct() {
     let mut random = Random(31);
-    let mut builder = AddressSet::<Ipv4Network>::builder();
+    let mut builder = AddressSetBuilder::<Ipv4Network>::default();
     for _ in 0..3_000_000 {
         let last = random.below(50) as u8;
         builder.insert(Ipv4Network::new(Ipv4Addr::new(192, 0, last, 1), 30).unwrap());
