@@ -53,6 +53,7 @@ impl<C: IndexedNetwork> Places<C> for Index<C> {
 }
 
 /// The places of values, and how many blocks there are of each prefix length.
+#[derive(Clone)]
 pub(super) struct Finder<P> {
     pub(super) places: P,
     pub(super) lengths: Lengths,
@@ -60,6 +61,7 @@ pub(super) struct Finder<P> {
 
 /// The entries of one family: a list, in which an entry keeps its place until another one is
 /// removed, and what says where an entry stands in it.
+#[derive(Clone)]
 pub(super) struct Part<C, V, P> {
     /// None before the first entry, since it takes more than 2 KiB.
     finder: Option<Box<Finder<P>>>,
@@ -262,50 +264,6 @@ impl<C: IndexedNetwork> Finder<Table<C>> {
             places,
             lengths: self.lengths,
         })
-    }
-}
-
-/// The table of the places of a map, again.
-fn table_again<C: IndexedNetwork>(order: &BTreeMap<C, u32>) -> Table<C> {
-    let mut table = PrefixTable::new(Global);
-    for (block, place) in order {
-        or_abort(table.insert(*block, *place));
-    }
-    table
-}
-
-impl<C: IndexedNetwork, V: Clone> Clone for Part<C, V, Table<C>> {
-    fn clone(&self) -> Self {
-        let entries = self.entries.clone();
-        let finder = self.finder.as_ref().map(|finder| {
-            Box::new(Finder {
-                places: table_again(&self.order),
-                lengths: finder.lengths,
-            })
-        });
-        Part {
-            finder,
-            order: self.order.clone(),
-            entries,
-        }
-    }
-}
-
-impl<C: IndexedNetwork, V: Clone> Clone for Part<C, V, Index<C>> {
-    fn clone(&self) -> Self {
-        let entries = self.entries.clone();
-        let finder = self.finder.as_ref().map(|finder| {
-            Finder {
-                places: table_again(&self.order),
-                lengths: finder.lengths,
-            }
-            .freeze()
-        });
-        Part {
-            finder,
-            order: self.order.clone(),
-            entries,
-        }
     }
 }
 
