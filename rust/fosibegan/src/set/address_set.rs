@@ -153,6 +153,8 @@ impl<N: Network> AddressSet<N> {
     /// Adds the addresses of a range, both ends included. Returns `true` if any of them was not in
     /// the set before. A range that ends before it begins has no addresses.
     ///
+    /// Takes binary searches, and no longer than to go over the set a few times.
+    ///
     /// # Panics
     ///
     /// Panics if the range begins in one address family and ends in the other.
@@ -201,6 +203,8 @@ impl<N: Network> AddressSet<N> {
 
     /// Removes the addresses of a range, both ends included. Returns `true` if any of them was in
     /// the set. A range that ends before it begins has no addresses.
+    ///
+    /// Takes binary searches, and no longer than to go over the set a few times.
     ///
     /// # Panics
     ///
