@@ -264,7 +264,8 @@ fn frozen_answers<N: Tested>(seed: u64) {
             expected.push(model.longest(*is_v6, *number));
         }
         let addrs: Vec<N::Addr> = addrs.into_iter().map(|asked| asked.2).collect();
-        let mut answers = vec![None; addrs.len()];
+        // What stood there before is no answer.
+        let mut answers = vec![frozen.iter().next(); addrs.len()];
         frozen.longest_each(&addrs, &mut answers);
         let answers: Vec<_> = answers
             .into_iter()

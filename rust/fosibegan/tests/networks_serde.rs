@@ -214,8 +214,15 @@ fn texts_that_are_refused() {
     let number: U8Deserializer<Error> = 8_u8.into_deserializer();
     let error = Ipv4Network::deserialize(number).unwrap_err().to_string();
     assert_eq!(error, "invalid type: integer `8`, expected a string");
-    let no_text: BytesDeserializer<'_, Error> = BytesDeserializer::new(b"\xff");
-    assert!(IpNetwork::deserialize(no_text).is_err());
+    for no_text in [
+        &b"\xff"[..],
+        b"10.0.0.0/8\xff",
+        b"\xff10.0.0.0/8",
+        b"10.0.0.0/8\0",
+    ] {
+        let no_text: BytesDeserializer<'_, Error> = BytesDeserializer::new(no_text);
+        assert!(IpNetwork::deserialize(no_text).is_err());
+    }
 }
 
 #[test]

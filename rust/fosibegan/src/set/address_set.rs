@@ -1,6 +1,7 @@
 //! The type of sets, and what changes one.
 
 use super::in_order::blocks_of_range;
+use super::operators::{add_blocks, subtract_blocks};
 use crate::convert::{CoreV4, CoreV6, or_abort};
 use crate::{IpNetwork, Network};
 use core::marker::PhantomData;
@@ -135,6 +136,8 @@ impl<N: Network> AddressSet<N> {
     /// Adds the addresses of a range, both ends included. Returns `true` if any of them was not in
     /// the set before. A range that ends before it begins has no addresses.
     ///
+    /// Takes binary searches, and no longer than to go over the set a few times.
+    ///
     /// # Panics
     ///
     /// Panics if the range begins in one address family and ends in the other.
@@ -152,14 +155,9 @@ impl<N: Network> AddressSet<N> {
     /// ```
     pub fn insert_range(&mut self, range: RangeInclusive<N::Addr>) -> bool {
         let (v4, v6) = blocks_of_range::<N>(&range);
-        let mut is_new = false;
-        for block in v4.into_iter().flatten() {
-            is_new |= or_abort(self.v4.insert(block));
-        }
-        for block in v6.into_iter().flatten() {
-            is_new |= or_abort(self.v6.insert(block));
-        }
-        is_new
+        let v4 = v4.is_some_and(|blocks| add_blocks(&mut self.v4, blocks));
+        let v6 = v6.is_some_and(|blocks| add_blocks(&mut self.v6, blocks));
+        v4 || v6
     }
 
     /// Removes the addresses of a network. Returns `true` if any of them was in the set.
@@ -189,6 +187,8 @@ impl<N: Network> AddressSet<N> {
     /// Removes the addresses of a range, both ends included. Returns `true` if any of them was in
     /// the set. A range that ends before it begins has no addresses.
     ///
+    /// Takes binary searches, and no longer than to go over the set a few times.
+    ///
     /// # Panics
     ///
     /// Panics if the range begins in one address family and ends in the other.
@@ -205,14 +205,9 @@ impl<N: Network> AddressSet<N> {
     /// ```
     pub fn remove_range(&mut self, range: RangeInclusive<N::Addr>) -> bool {
         let (v4, v6) = blocks_of_range::<N>(&range);
-        let mut was_in = false;
-        for block in v4.into_iter().flatten() {
-            was_in |= or_abort(self.v4.remove(block));
-        }
-        for block in v6.into_iter().flatten() {
-            was_in |= or_abort(self.v6.remove(block));
-        }
-        was_in
+        let v4 = v4.is_some_and(|blocks| subtract_blocks(&mut self.v4, blocks));
+        let v6 = v6.is_some_and(|blocks| subtract_blocks(&mut self.v6, blocks));
+        v4 || v6
     }
 
     /// Removes all addresses, and frees the memory.

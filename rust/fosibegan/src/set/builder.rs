@@ -17,7 +17,8 @@ use fosibegan_core::{AddressSet as CoreSet, AddressSpace, aggregate_in_place};
 /// builder only takes note of it: 400,000 networks in random order take a tenth of a second instead
 /// of more than ten. Whenever its list has become four times as long, from 65,536 networks on, it
 /// is reduced to the fewest, so it never needs much more than four times the memory of the set,
-/// however often the same addresses come.
+/// however often the same addresses come. Only the items of a single iterator are all kept until
+/// its end, if it says how many they are.
 ///
 /// A builder can be extended by iterators too; a single iterator is
 /// [collected](AddressSet#impl-FromIterator<T>-for-AddressSet<N>) without a builder.
@@ -220,6 +221,8 @@ impl<N: Network, T: Addresses<N>> Extend<T> for AddressSetBuilder<N> {
         self.v4.expect(least);
         self.v6.expect(least);
         items.for_each(|item| item.add_to(self));
+        self.v4.expect(0);
+        self.v6.expect(0);
     }
 }
 
@@ -249,8 +252,11 @@ const FEW: usize = 1 << 16;
 #[derive(Clone)]
 struct Gathered<C> {
     networks: Vec<C>,
-    /// The length at which the list is reduced to the fewest networks: four times what was left of
-    /// it the last time, so that over all this takes less time than to sort the whole list again.
+    /// The length from which on the list is to be reduced to the fewest networks: four times what
+    /// was left of it the last time, so that over all this takes less time than to sort the whole
+    /// list again.
+    due: usize,
+    /// The length at which it is reduced, which is greater while an iterator adds what it announced.
     limit: usize,
 }
 
@@ -258,6 +264,7 @@ impl<C> Default for Gathered<C> {
     fn default() -> Self {
         Gathered {
             networks: Vec::new(),
+            due: FEW,
             limit: FEW,
         }
     }
@@ -274,17 +281,97 @@ impl<C: AddressSpace> Gathered<C> {
 
     /// So many networks that come at once are sorted once.
     fn expect(&mut self, more: usize) {
-        self.limit = self.limit.max(self.networks.len().saturating_add(more));
+        if more > 0 && self.networks.len() >= self.due {
+            self.reduce();
+        }
+        self.limit = self.due.max(self.networks.len().saturating_add(more));
     }
 
     #[cold]
     fn reduce(&mut self) {
         let count = aggregate_in_place(&mut self.networks);
         self.networks.truncate(count);
-        self.limit = FEW.max(count.saturating_mul(4));
+        self.due = FEW.max(count.saturating_mul(4));
+        self.limit = self.due;
     }
 
     fn into_set(self) -> CoreSet<C> {
         CoreSet::from_networks(self.networks.into())
+    }
+}
+
+#[cfg(test)]
+mod tests {
+    use super::{AddressSetBuilder, FEW, Gathered};
+    use crate::{IpNetwork, Ipv4Network, Ipv6Network};
+    use core::net::Ipv4Addr;
+
+    /// The addresses of a list that comes again and again, each a network of its own.
+    fn every_other(count: u32) -> impl ExactSizeIterator<Item = Ipv4Addr> + Clone {
+        (0..count).map(|number| Ipv4Addr::from_bits(2 * number))
+    }
+
+    fn kept<C>(gathered: &Gathered<C>) -> usize {
+        gathered.networks.len()
+    }
+
+    #[test]
+    fn addresses_that_come_again_take_no_memory() {
+        let most = 4 * 20_000 + 20_000;
+        let mut one_by_one = AddressSetBuilder::<Ipv4Network>::default();
+        let mut by_lists = one_by_one.clone();
+        let mut by_long_lists = one_by_one.clone();
+        let long = every_other(20_000)
+            .collect::<alloc::vec::Vec<_>>()
+            .repeat(5);
+        for _ in 0..30 {
+            every_other(20_000).for_each(|addr| one_by_one.insert(addr.into()));
+            by_lists.extend(every_other(20_000));
+            by_long_lists.extend(&long);
+            assert!(kept(&one_by_one.v4) <= most && kept(&by_lists.v4) <= most);
+            assert!(kept(&by_long_lists.v4) <= most + long.len());
+        }
+        let set = one_by_one.build();
+        assert_eq!(set.len(), 20_000);
+        assert!(by_lists.build() == set && by_long_lists.build() == set);
+    }
+
+    /// An iterator that says that more items come than there can be.
+    #[derive(Clone)]
+    struct Endless<I>(I);
+
+    impl<I: Iterator> Iterator for Endless<I> {
+        type Item = I::Item;
+
+        fn next(&mut self) -> Option<I::Item> {
+            self.0.next()
+        }
+
+        fn size_hint(&self) -> (usize, Option<usize>) {
+            (usize::MAX, None)
+        }
+    }
+
+    #[test]
+    fn what_an_iterator_says_is_no_request_for_memory() {
+        let mut builder = AddressSetBuilder::<IpNetwork>::default();
+        for _ in 0..2 {
+            builder.extend(Endless(every_other(3)));
+        }
+        assert_eq!((kept(&builder.v4), kept(&builder.v6)), (6, 0));
+        assert_eq!((builder.v4.limit, builder.v6.limit), (FEW, FEW));
+        assert_eq!(builder.v6.networks.capacity(), 0);
+    }
+
+    #[test]
+    fn memory_is_reserved_for_the_families_of_the_set() {
+        let v4 = AddressSetBuilder::<Ipv4Network>::with_capacity(9);
+        assert!(v4.v4.networks.capacity() >= 9 && v4.v6.networks.capacity() == 0);
+        let mut v6 = AddressSetBuilder::<Ipv6Network>::default();
+        assert!(v6.try_reserve(9).is_ok() && v6.try_reserve(usize::MAX).is_err());
+        assert!(v6.v6.networks.capacity() >= 9 && v6.v4.networks.capacity() == 0);
+        let mut both = AddressSetBuilder::new();
+        both.reserve(9);
+        assert!(both.v4.networks.capacity() >= 9 && both.v6.networks.capacity() >= 9);
     }
 }

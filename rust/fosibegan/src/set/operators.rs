@@ -2,12 +2,13 @@
 
 use crate::convert::or_abort;
 use crate::{AddressSet, Network};
+use alloc::vec::Vec;
 use core::ops::{
     BitAnd, BitAndAssign, BitOr, BitOrAssign, BitXor, BitXorAssign, Not, Sub, SubAssign,
 };
 use fosibegan_core::plain_std::alloc::Global;
 use fosibegan_core::plain_std::vec::Vec as CoreVec;
-use fosibegan_core::{AddressSet as CoreSet, AddressSpace, SetBlocks, collected};
+use fosibegan_core::{AddressSet as CoreSet, AddressSpace, RangeBlocks, SetBlocks, collected};
 
 /// So many networks are rather added to a set or removed from it one by one.
 const FEW: usize = 8;
@@ -47,6 +48,40 @@ fn subtract<C: AddressSpace>(set: &mut CoreSet<C>, other: &CoreSet<C>) {
     for block in other.blocks() {
         or_abort(set.remove(*block));
     }
+}
+
+/// The networks of a range, unless they are few.
+fn many<C: AddressSpace>(blocks: &RangeBlocks<C>) -> Option<CoreSet<C>> {
+    blocks.clone().nth(FEW)?;
+    let blocks: Vec<C> = blocks.clone().collect();
+    Some(CoreSet::from_networks(blocks.into()))
+}
+
+/// Adds the networks of a range. Returns whether any address of theirs was not in the set.
+pub(super) fn add_blocks<C: AddressSpace>(set: &mut CoreSet<C>, blocks: RangeBlocks<C>) -> bool {
+    let Some(all) = many(&blocks) else {
+        return blocks.fold(false, |is_new, block| is_new | or_abort(set.insert(block)));
+    };
+    let is_new = all.blocks().iter().any(|block| !set.covers(*block));
+    if is_new {
+        add(set, &all);
+    }
+    is_new
+}
+
+/// Removes the networks of a range. Returns whether any address of theirs was in the set.
+pub(super) fn subtract_blocks<C: AddressSpace>(
+    set: &mut CoreSet<C>,
+    blocks: RangeBlocks<C>,
+) -> bool {
+    let Some(all) = many(&blocks) else {
+        return blocks.fold(false, |was_in, block| was_in | or_abort(set.remove(block)));
+    };
+    let was_in = all.blocks().iter().any(|block| set.overlaps(*block));
+    if was_in {
+        subtract(set, &all);
+    }
+    was_in
 }
 
 impl<N: Network> BitOr for &AddressSet<N> {

@@ -116,6 +116,8 @@ fn what_is_left_of_large_networks() {
         }
     }
     assert_eq!(v6("::/0").exclude(v6("ffff::/128")).len(), 128);
+    has_items(v4("10.0.0.1/0").exclude(v4("0.0.0.0/0")), &[]);
+    has_items(v6("::/0").exclude(v6("2001:db8::/0")), &[]);
     has_items(v4("10.0.0.1/8").exclude(v4("10.0.0.0/7")), &[]);
     has_items(
         v4("10.0.0.1/8").exclude(v4("11.0.0.0/8")),
@@ -301,6 +303,9 @@ fn networks_of_two_families_together() {
         IpNetwork::aggregate(list(&["128.0.0.0/1", "0.0.0.0/1"])),
         list(&["0.0.0.0/0"])
     );
+    for whole in ["0.0.0.0/0", "::/0"] {
+        assert_eq!(IpNetwork::aggregate(list(&[whole])), list(&[whole]));
+    }
     assert_eq!(IpNetwork::aggregate([]), []);
     assert_eq!(IpNetwork::spanning([]), None);
     assert_eq!(IpNetwork::spanning(list(&["10.0.0.0/8", "::/0"])), None);

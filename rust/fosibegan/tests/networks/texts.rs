@@ -47,6 +47,7 @@ where
     assert_eq!(format!("{network:?}"), printed);
     assert_eq!(format!("{network:#?}"), printed);
     assert_eq!(format!("[{network:>60}]"), format!("[{printed:>60}]"));
+    assert_eq!(format!("[{network:>60?}]"), format!("[{printed:>60}]"));
     assert_eq!(format!("[{network:<60}]"), format!("[{printed:<60}]"));
     assert_eq!(format!("[{network:*^60}]"), format!("[{printed:*^60}]"));
     assert_eq!(format!("[{network:60}]"), format!("[{printed:60}]"));

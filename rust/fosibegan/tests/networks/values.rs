@@ -64,7 +64,13 @@ fn conversions() {
         Ok(v4("10.1.9.32/8"))
     );
     assert_eq!(Ipv6Network::try_from(either("::1/64")), Ok(v6("::1/64")));
-    assert!(Ipv4Network::try_from(either("::ffff:10.0.0.0/104")).is_err());
+    for mapped in [
+        "::ffff:10.0.0.0/104",
+        "::ffff:10.0.0.0/128",
+        "::10.0.0.0/128",
+    ] {
+        assert!(Ipv4Network::try_from(either(mapped)).is_err());
+    }
     assert!(Ipv6Network::try_from(either("10.1.9.32/8")).is_err());
 }
 

@@ -365,6 +365,9 @@ fn large_sets_by_each_way() {
         let mut extended: AddressSet = networks[..networks.len() / 3].iter().collect();
         extended.extend(&networks[networks.len() / 3..]);
         assert_eq!(set, extended);
+        let mut extended = AddressSet::new();
+        extended.extend(&networks);
+        assert_eq!(set, extended);
         for network in &networks {
             extended.extend([network]);
         }

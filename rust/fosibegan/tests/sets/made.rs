@@ -1,7 +1,10 @@
 //! What sets are made of.
 
 use crate::space::Random;
-use fosibegan::{AddressCount, AddressSet, AddressSetBuilder, IpNetwork, Ipv4Network, Ipv6Network};
+use fosibegan::{
+    AddressCount, AddressSet, AddressSetBuilder, Addresses, IpNetwork, Ipv4Network, Ipv6Network,
+    Network,
+};
 use std::cmp::Ordering;
 use std::collections::BTreeSet;
 use std::net::{IpAddr, Ipv4Addr, Ipv6Addr};
@@ -20,7 +23,7 @@ fn ip(text: &str) -> IpAddr {
     text.parse().unwrap()
 }
 
-fn texts<N: fosibegan::Network>(set: &AddressSet<N>) -> Vec<String> {
+fn texts<N: Network>(set: &AddressSet<N>) -> Vec<String> {
     set.networks().map(|network| network.to_string()).collect()
 }
 
@@ -89,8 +92,28 @@ fn ranges_that_end_before_they_begin_have_no_addresses() {
     let mut used = v4("10.0.0.1")..=v4("10.0.0.1");
     used.next();
     assert!(used.is_empty());
-    assert!(AddressSet::<Ipv4Network>::from([used.clone()]).is_empty());
+    no_addresses_of::<Ipv4Network>(&used);
     assert!(AddressSet::<IpNetwork>::from([used]).is_empty());
+    let mut used = v6("2001:db8::1")..=v6("2001:db8::1");
+    used.next_back();
+    assert!(used.is_empty());
+    no_addresses_of::<Ipv6Network>(&used);
+    assert!(AddressSet::<IpNetwork>::from([used]).is_empty());
+}
+
+/// A set that is made of the range is empty, and nothing of the range is added or removed.
+fn no_addresses_of<N: Network>(range: &RangeInclusive<N::Addr>)
+where
+    RangeInclusive<N::Addr>: Addresses<N>,
+{
+    assert!(AddressSet::<N>::from([range.clone()]).is_empty());
+    let mut builder = AddressSet::<N>::builder();
+    builder.insert_range(range.clone());
+    assert!(builder.build().is_empty());
+    let mut set = AddressSet::<N>::default();
+    assert!(!set.insert_range(range.clone()) && set.is_empty());
+    let mut whole = !set;
+    assert!(!whole.remove_range(range.clone()) && (!whole).is_empty());
 }
 
 #[test]

@@ -168,6 +168,24 @@ fn what_is_empty() {
     assert!(Networks::<IpNetwork>::default().next().is_none());
 }
 
+/// Of prefix length 0 there is one network in each family, and it is free only if nothing is used.
+#[test]
+fn a_whole_family_is_free_if_nothing_is_used() {
+    for (all, used) in [("0.0.0.0/0", "255.255.255.255"), ("::/0", "::")] {
+        let (all, used): (IpNetwork, IpNetwork) = (all.parse().unwrap(), used.parse().unwrap());
+        let mut set = AddressSet::new();
+        assert_eq!(set.first_free(all, 0), Some(all));
+        assert_eq!(set.largest_free(all), Some(all));
+        assert!(set.free_in(all).eq([all]));
+        assert_eq!(set.first_free(used, 0), None);
+        set.insert(used);
+        assert_eq!(set.first_free(all, 0), None);
+        assert_eq!(set.largest_free(all).map(|free| free.prefix()), Some(1));
+        assert_eq!((!&set).first_free(all, used.prefix()), Some(used));
+        assert_eq!(set.first_free(used, used.prefix()), None);
+    }
+}
+
 #[test]
 fn every_thread_may_have_them() {
     fn may<T: Send + Sync + Unpin + Clone + std::fmt::Debug>() {}
