@@ -107,7 +107,7 @@ where
     RangeInclusive<N::Addr>: Addresses<N>,
 {
     assert!(AddressSet::<N>::from([range.clone()]).is_empty());
-    let mut builder = AddressSet::<N>::builder();
+    let mut builder = AddressSetBuilder::<N>::default();
     builder.insert_range(range.clone());
     assert!(builder.build().is_empty());
     let mut set = AddressSet::<N>::default();
