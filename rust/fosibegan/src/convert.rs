@@ -28,9 +28,16 @@ pub(crate) fn told_v4(address: core_addr::Ipv4Addr) -> Ipv4Addr {
     Ipv4Addr::from_bits(address.into())
 }
 
-/// The address as the core has it: by its number, since by its segments takes longer.
+/// The address as the core has it: by its segments, which takes less time where it is compared many
+/// times.
 #[inline]
 pub(crate) fn asked_v6(address: Ipv6Addr) -> core_addr::Ipv6Addr {
+    address.segments().into()
+}
+
+/// The same by its number, which takes less time where the core first asks for the number.
+#[inline]
+pub(crate) fn asked_v6_by_number(address: Ipv6Addr) -> core_addr::Ipv6Addr {
     address.to_bits().into()
 }
 

@@ -3,7 +3,7 @@
 use super::both::Both;
 use super::part::{Index, Part, Places, Table};
 use super::part_iter::{PartCovering, PartIter, PartRange};
-use crate::convert::{CoreV4, CoreV6, asked_v4, asked_v6};
+use crate::convert::{CoreV4, CoreV6, asked_v4, asked_v6_by_number};
 use crate::network::sealed::Here;
 use crate::{IpNetwork, Ipv4Network, Ipv6Network, Network};
 use alloc::vec::Vec;
@@ -155,7 +155,7 @@ impl<N: Network, V, P4: Places<CoreV4>, P6: Places<CoreV6>> Parts<N, V, P4, P6> 
                 Some((block_at_v4(addr, prefix), self.v4.at(place)))
             }
             IpAddr::V6(addr) => {
-                let (prefix, place) = self.v6.longest(asked_v6(addr))?;
+                let (prefix, place) = self.v6.longest(asked_v6_by_number(addr))?;
                 Some((block_at_v6(addr, prefix), self.v6.at(place)))
             }
         }
@@ -169,7 +169,7 @@ impl<N: Network, V, P4: Places<CoreV4>, P6: Places<CoreV6>> Parts<N, V, P4, P6> 
                 Some((block_at_v4(addr, prefix), self.v4.at_mut(place)))
             }
             IpAddr::V6(addr) => {
-                let (prefix, place) = self.v6.longest(asked_v6(addr))?;
+                let (prefix, place) = self.v6.longest(asked_v6_by_number(addr))?;
                 Some((block_at_v6(addr, prefix), self.v6.at_mut(place)))
             }
         }

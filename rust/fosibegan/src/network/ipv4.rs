@@ -338,9 +338,8 @@ impl Ipv4Network {
     #[inline]
     #[allow(clippy::cast_possible_truncation, clippy::cast_sign_loss)]
     const fn mask_bits(self) -> u32 {
-        // The shift of a negative number moves ones into the low half. In 64 bits, a shift by 32
-        // needs no case of its own.
-        (-1_i64 << 32 >> self.prefix) as u32
+        // In 64 bits, a shift by 32 needs no case of its own.
+        !(u32::MAX as u64 >> self.prefix) as u32
     }
 
     /// The first address, as a number.
