@@ -37,7 +37,7 @@ use fosibegan_core::plain_std::alloc::Global;
 ///
 /// # Cost
 ///
-/// [`contains`](Self::contains) takes a few reads if the networks are spread out (8 ns for 10,000
+/// [`contains`](Self::contains) takes a few reads if the networks are spread out (10 ns for 10,000
 /// of them), and no longer than a binary search if they are not. Beside the memory of the set, each
 /// end of a range takes 8 to 20 bytes for IPv4, and 20 to 40 for IPv6.
 #[derive(Clone)]
