@@ -245,10 +245,13 @@ fn of_equal_blocks_the_last_counts() {
     assert_eq!(FrozenMap::from(entries), collected);
     assert_eq!(FrozenMap::from(map.clone()), collected);
     assert_eq!(PrefixMap::from(collected), map);
+    // An empty map takes all entries at once, and another one each by itself.
     let mut extended = PrefixMap::new();
+    extended.extend([(network("192.0.2.0/24"), 4), (network("::1"), 5)]);
+    assert_eq!(extended.values().copied().collect::<Vec<_>>(), [4, 5]);
     extended.extend(entries);
     extended.extend([(network("::/0"), 9)]);
-    assert_eq!(extended.values().copied().collect::<Vec<_>>(), [3, 9]);
+    assert_eq!(extended.values().copied().collect::<Vec<_>>(), [3, 4, 9, 5]);
 }
 
 #[test]
