@@ -205,7 +205,7 @@ static:
 	    fi; \
 	done; [ "$$made" ]
 
-# Copies what is built, and builds nothing. What could stop it is looked at before the first file is copied.
+# Copies what is built, and builds nothing but completions. What could stop it is looked at before the first file is copied.
 install:
 	@[ -n "$(programs_there)$(wildcard $(ARCHIVE) $(EXTENSION))" ] || { \
 	    echo "make install: nothing $(if $(filter-out undefined,$(origin PLAIN)),of this build )is built: run make plain first, or make, which proves and needs rt" >&2; exit 1; }
@@ -221,17 +221,16 @@ install:
 	    echo "make install: run sudo make install, or make install PREFIX=~/.local, or name another PREFIX" >&2; exit 1; }
 	@echo "make install:$(if $(programs_there), programs: $(call kind,$(PLAIN_PROGRAMS));)$(if \
 	    $(and $(wildcard $(ARCHIVE)),$(wildcard $(SHARED))), library for C: $(call kind,$(PLAIN_LIBRARY)))" >&2
-	@for program in $(PROGRAMS); do \
+	@completions=$$(mktemp -d) && trap 'rm -rf "$$completions"' EXIT && scripts/completions "$$completions" || exit 1; \
+	for program in $(PROGRAMS); do \
 	    if [ -f $(call built,$$program) ]; then \
 	        $(INSTALL) -d "$(DESTDIR)$(BINDIR)" "$(DESTDIR)$(MANDIR)/man1" && \
 	        $(INSTALL) -m 755 $(call built,$$program) "$(DESTDIR)$(BINDIR)/$$program" && \
-	        $(INSTALL) -m 644 docs/man/$$program.1 "$(DESTDIR)$(MANDIR)/man1/$$program.1" || exit 1; \
-	        if [ -f completions/$$program.bash ]; then \
-	            $(INSTALL) -d "$(DESTDIR)$(BASHDIR)" "$(DESTDIR)$(ZSHDIR)" "$(DESTDIR)$(FISHDIR)" && \
-	            $(INSTALL) -m 644 completions/$$program.bash "$(DESTDIR)$(BASHDIR)/$$program" && \
-	            $(INSTALL) -m 644 completions/$$program.zsh "$(DESTDIR)$(ZSHDIR)/_$$program" && \
-	            $(INSTALL) -m 644 completions/$$program.fish "$(DESTDIR)$(FISHDIR)/$$program.fish" || exit 1; \
-	        fi; \
+	        $(INSTALL) -m 644 docs/man/$$program.1 "$(DESTDIR)$(MANDIR)/man1/$$program.1" && \
+	        $(INSTALL) -d "$(DESTDIR)$(BASHDIR)" "$(DESTDIR)$(ZSHDIR)" "$(DESTDIR)$(FISHDIR)" && \
+	        $(INSTALL) -m 644 "$$completions/$$program.bash" "$(DESTDIR)$(BASHDIR)/$$program" && \
+	        $(INSTALL) -m 644 "$$completions/$$program.zsh" "$(DESTDIR)$(ZSHDIR)/_$$program" && \
+	        $(INSTALL) -m 644 "$$completions/$$program.fish" "$(DESTDIR)$(FISHDIR)/$$program.fish" || exit 1; \
 	    else \
 	        echo "make install: without $$program, which is not $(if $(STATIC),linked by make static,built)" >&2; \
 	    fi; \

@@ -73,7 +73,7 @@ def from_c(run, rows):
     speed = run.folder / "speed"
     said(["cc", "-std=c11", "-O2", "-o", speed, TOP / "bindings/c/speed.c", LIBRARY])
     own = {name: float(time) for name, time in re.findall(r"^(.+?) +([\d.]+) ns$", said([speed]), re.M)}
-    rows.add_own("C, without an index", {"set": own.get("ipnetwork_v4_set_contains"), "find": own.get("ipnetwork_v4_table_find")})
+    rows.add_own("C, without an index", {"set": own.get("ipnetwork_v4_index_contains, no index"), "find": own.get("ipnetwork_v4_index_find, no index")})
     rows.add_peer("a binary search in C", {"set": own.get("a plain binary search in C")})
     calls = {"read4": "v4_read", "read6": "v6_read", "has4": "v4_contains", "has6": "v6_contains", "set": "v4_index_contains",
              "set_column4": "v4_index_contains_column", "set_column6": "v6_index_contains_column", "find": "v4_index_find",

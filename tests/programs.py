@@ -3,6 +3,7 @@ the proved ones, crates/NAME/out/NAME."""
 
 import os
 import pathlib
+import re
 import subprocess
 import sys
 
@@ -32,6 +33,12 @@ def version(name):
     """What `--version` of this program prints: with the word `--plain` on the command line, of the plain Rust build."""
     build = "plain Rust, made of proved sources" if "--plain" in sys.argv else "proved"
     return f"{name} {(TOP / 'VERSION').read_text().strip()} ({build})\n".encode()
+
+
+def usage(name):
+    """What this program says of its usage after what is wrong with a command line: the text of its src/help.rt."""
+    text = re.search(r'const USAGE: &str =\s*"([^"]*)";', (TOP / "crates" / name / "src/help.rt").read_text())[1]
+    return re.sub(r"\\\n\s*", "", text).replace("\\n", "\n").encode()
 
 
 def asked(name):

@@ -58,19 +58,20 @@ def keep(folder):
     shutil.copytree(folder / "out/incremental", folder / "out/sound", copy_function=link_or_copy)
 
 
-def said_of_check(folder):
-    """What a check says that begins with what was kept of the crate as it stands: over what the check of another edit
-    left, the functions of that one would be proved again."""
-    shutil.rmtree(folder / "out/incremental")
-    shutil.copytree(folder / "out/sound", folder / "out/incremental", copy_function=link_or_copy)
-    return ran(folder, "check")
+def said_of_check(folder, functions=()):
+    """What a check says, of these functions alone if there are any. It begins with what was kept of the crate as it stands,
+    if something was: over what the check of another edit left, the functions of that one would be proved again."""
+    shutil.rmtree(folder / "out/incremental", ignore_errors=True)
+    if (folder / "out/sound").exists():
+        shutil.copytree(folder / "out/sound", folder / "out/incremental", copy_function=link_or_copy)
+    return ran(folder, "check", *(word for function in functions for word in ("--only", function)))
 
 
 def verdict(said):
-    """Whether a check proved the crate; None where it could not read its sources."""
+    """Whether a check proved the crate, or what it was asked for; None where it could not read its sources."""
     wrong = r"^(\./)?(src|specs)/\S+: error: .*(is not in scope|has no field|is no name|expected the end|cannot continue)"
-    found = re.findall(r"^logic=(proved|not-proved)", said, re.M)
-    return None if not found or re.search(wrong, said, re.M) else found[-1] == "proved"
+    found = re.findall(r"^(?:logic=(proved|not-proved)|only=(\d+) proved=(\d+))", said, re.M)
+    return None if not found or re.search(wrong, said, re.M) else found[-1][0] == "proved" or found[-1][1] == found[-1][2] != ""
 
 
 def left_open(said):
@@ -95,8 +96,14 @@ def is_at_a_step(at):
     return bool(at) and at.startswith("only")
 
 
-def checked(edit, copy):
-    """At what the check refuses the edit, or None where it proves the crate with it."""
+def checked(edit, copy, is_proved=False):
+    """At what the check of the whole crate refuses the edit, or None where it proves the crate with it. The crate is proved
+    as it stands first, for this edit and those that follow, unless that is known and no other edit follows."""
+    whole = copy / "crates" / edit.crate
+    if not is_proved and not (whole / "out/sound").exists():
+        if not verdict(ran(whole, "check")):
+            raise NotJudged("the crate is not proved as it stands")
+        keep(whole)
     with edited(edit, copy) as folder:
         said = said_of_check(folder)
     if verdict(said) is None:
@@ -105,18 +112,21 @@ def checked(edit, copy):
 
 
 def checked_together(edits, copy):
-    """At what one check refuses several edits, each of functions of its own, by name. The contracts are as they were,
-    so that what is left open of a function is due to the edit of it. Left out are an edit that cannot be applied after
-    the others, one of whose functions nothing is left open, and all of them where the crate does not compile: those
-    have to be checked one at a time."""
+    """At what one check, of their functions alone, refuses several edits, each of functions of its own, by name. The
+    contracts are as they were, so that what is left open of a function is due to the edit of it. Left out are an edit that
+    cannot be applied after the others, one of whose functions nothing is left open, or that the check knows by other names,
+    and all of them where the crate does not compile: those have to be checked one at a time."""
     folder = copy / "crates" / edits[0].crate
     applied = []
     for edit in edits:
         with contextlib.suppress(NotJudged):
             edit.apply(folder)
             applied.append(edit)
-    said = said_of_check(folder)
+    said = said_of_check(folder, sorted({path for edit in applied for path in edit.paths()}))
     put_back(edits, folder)
+    unknown = set(re.findall(r"`([^`]+)`", "".join(re.findall(r"^rattle: error: .*", said, re.M))))
+    if others := [it for it in applied if it.paths() & unknown]:
+        return checked_together([it for it in applied if it not in others], copy) if len(others) < len(applied) else {}
     if verdict(said) is not False:
         return {}
     goals, steps = left_open(said)
@@ -132,7 +142,8 @@ def is_of(path, edit):
     """Whether a path of the check is that of a function that the edit changes."""
     parts = path.split("::")
     modules = {(tuple(module.split("::")) if module else (), name) for module, name in edit.functions()}
-    return any(parts[-1] == name and tuple(parts[: len(module)]) == module for module, name in modules)
+    is_below = any(parts[-1] == name and tuple(parts[: len(module)]) == module for module, name in modules)
+    return is_below or any(f"::{path}".endswith(f"::{it}") for it in edit.paths())
 
 
 def apart(edits):
@@ -147,23 +158,23 @@ def apart(edits):
 
 
 def refusals(edits, copy, unjudged):
-    """At what the check refuses each edit; None where it does not. Those of several functions go together, until a
-    check tells of none: of a function that calls a changed one, a check says nothing more."""
+    """At what the check refuses each edit of a crate that is proved; None where it does not. Those of several functions go
+    together, until a check tells of none: of a function that calls a changed one, a check says nothing more."""
     found = {}
-    while len(together := apart([it for it in edits if it.name not in found])) > 1:
+    while together := apart([it for it in edits if it.name not in found]):
         told = checked_together(together, copy)
         for name, at in told.items():
             progress(f"{edits[0].crate}/{name}: {at}")
         if not told:
             break
         found |= told
-    for edit in edits:
-        if edit.name not in found:
-            try:
-                found[edit.name] = checked(edit, copy)
-                progress(f"{edit.crate}/{edit.name}: {found[edit.name]}")
-            except NotJudged as why:
-                unjudged[edit.name] = str(why)
+    alone = [it for it in edits if it.name not in found]
+    for edit in alone:
+        try:
+            found[edit.name] = checked(edit, copy, len(alone) == 1)
+            progress(f"{edit.crate}/{edit.name}: {found[edit.name]}")
+        except NotJudged as why:
+            unjudged[edit.name] = str(why)
     return found
 
 

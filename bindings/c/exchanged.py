@@ -28,7 +28,6 @@ SAME = [
     (r"v[46]_overlaps", {"one", "other"}),
     (r"v[46]_(union|intersection)", {"first and first_count", "second and second_count"}),
     (r"v[46]_table_make", {"block_count", "place_count"}),
-    (r"v[46]_table_find_column", {"index_count", "fault_count"}),
     (r"v[46]_index_contains_column", {"answer_count", "fault_count"}),
     (r"v[46]_index_find_column", {"place_count", "fault_count"}),
     (r"v[46]_ranges_make", {"range_room", "place_room"}),

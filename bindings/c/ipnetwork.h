@@ -203,15 +203,6 @@ IPNETWORK_CHECKED_AT((1)) ipnetwork_fault ipnetwork_v6_contains_column(const ipn
                                                                      uint8_t *IPNETWORK_ALONE answers,
                                                                      size_t answer_count);
 
-/* Whether an address is a member of at least one of network_count networks, in any order and with or without host bits:
- * *answer is 1 or 0, and 0 if there are no networks. IPNETWORK_PREFIX if a prefix length is greater than the width. */
-IPNETWORK_CHECKED_AT((3, 4)) ipnetwork_fault ipnetwork_v4_list_contains(const ipnetwork_v4 *networks,
-                                                                      size_t network_count, const uint8_t address[4],
-                                                                      uint8_t *IPNETWORK_ALONE answer);
-IPNETWORK_CHECKED_AT((3, 4)) ipnetwork_fault ipnetwork_v6_list_contains(const ipnetwork_v6 *networks,
-                                                                      size_t network_count, const uint8_t address[16],
-                                                                      uint8_t *IPNETWORK_ALONE answer);
-
 /* Whether an address of 4 or 16 octets is a member of a network of either family. No address of the other family is a
  * member, not even an IPv4-mapped IPv6 address of an IPv4 network. IPNETWORK_NO_FAMILY if the family of the struct is
  * neither 4 nor 6, or address_length is neither 4 nor 16; else IPNETWORK_PREFIX if the prefix length is greater than
@@ -323,18 +314,6 @@ IPNETWORK_CHECKED_AT((3)) ipnetwork_fault ipnetwork_v6_aggregate(ipnetwork_v6 *I
                                                                 size_t network_count,
                                                                 size_t *IPNETWORK_ALONE block_count);
 
-/* Whether an address is in the set of block_count blocks, as aggregate leaves them: *answer is 1 or 0. It is not checked
- * that the list is that of a set. Of an unsorted list, or of one in which a block lies in another, 1 is right too, but 0
- * says nothing: aggregate it first, or ask ipnetwork_v4_list_contains or ipnetwork_v6_list_contains, which take any
- * list. ipnetwork_v4_index_make and ipnetwork_v6_index_make refuse a list that is not that of a set. Not every struct is
- * read: if the structs ascend, the search ends at the last one whose own address is at or before this address.
- * IPNETWORK_PREFIX exactly if the prefix length of the struct at which the search ends is greater than the width, which
- * never occurs in the list of a set. */
-IPNETWORK_CHECKED_AT((3, 4)) ipnetwork_fault ipnetwork_v4_set_contains(const ipnetwork_v4 *blocks, size_t block_count,
-    const uint8_t address[4], uint8_t *IPNETWORK_ALONE answer);
-IPNETWORK_CHECKED_AT((3, 4)) ipnetwork_fault ipnetwork_v6_set_contains(const ipnetwork_v6 *blocks, size_t block_count,
-    const uint8_t address[16], uint8_t *IPNETWORK_ALONE answer);
-
 /* Makes a table of network_count networks, in any order and with or without host bits, for the next calls. Writes the
  * block of each network to the front of blocks, in ascending order, and for each block the number of its network,
  * counted from 0, to the front of places. So blocks[i] is the block of networks[places[i]], and the caller finds what
@@ -347,32 +326,6 @@ IPNETWORK_CHECKED_FAULT ipnetwork_fault ipnetwork_v4_table_make(const ipnetwork_
 IPNETWORK_CHECKED_FAULT ipnetwork_fault ipnetwork_v6_table_make(const ipnetwork_v6 *networks, size_t network_count,
     ipnetwork_v6 *IPNETWORK_ALONE blocks, size_t block_count, size_t *IPNETWORK_ALONE places, size_t place_count);
 
-/* Finds the longest block of a table that has an address. A table is block_count blocks without host bits in ascending
- * order, as ipnetwork_v4_compare and ipnetwork_v6_compare order them, and as ipnetwork_v4_table_make and
- * ipnetwork_v6_table_make leave them; some may contain others. *index is the index of the block in the table, and of
- * equal blocks that of the last one. IPNETWORK_NO_MEMBER if no block has the address. It is not checked that the list
- * is a table. For any other list the block at *index has the address too, but there may be a longer one, and
- * IPNETWORK_NO_MEMBER says nothing. Not every struct is read: the search begins at the last block at or before the
- * address, and goes on from a block that does not have it to the last block before that at which one with the address
- * can begin. IPNETWORK_PREFIX at the first struct that the search reaches whose prefix length is greater than the
- * width. */
-IPNETWORK_CHECKED_AT((3, 4)) ipnetwork_fault ipnetwork_v4_table_find(const ipnetwork_v4 *blocks, size_t block_count,
-    const uint8_t address[4], size_t *IPNETWORK_ALONE index);
-IPNETWORK_CHECKED_AT((3, 4)) ipnetwork_fault ipnetwork_v6_table_find(const ipnetwork_v6 *blocks, size_t block_count,
-    const uint8_t address[16], size_t *IPNETWORK_ALONE index);
-
-/* The same for many addresses in one call: indexes[i] and faults[i] are what ipnetwork_v4_table_find or
- * ipnetwork_v6_table_find leaves and returns for address i. An address without a block leaves its index unchanged, and
- * does not stop the call. There are address_count addresses, of 4 or 16 octets each, one after the other. The rest of
- * indexes and faults is not written. IPNETWORK_SHORT_BUFFER if index_count or fault_count, the numbers of indexes and
- * faults that there is room for, is less than address_count: then nothing is written. */
-IPNETWORK_CHECKED_FAULT ipnetwork_fault ipnetwork_v4_table_find_column(const ipnetwork_v4 *blocks, size_t block_count,
-    const uint8_t *addresses, size_t address_count, size_t *IPNETWORK_ALONE indexes, size_t index_count,
-    uint8_t *IPNETWORK_ALONE faults, size_t fault_count);
-IPNETWORK_CHECKED_FAULT ipnetwork_fault ipnetwork_v6_table_find_column(const ipnetwork_v6 *blocks, size_t block_count,
-    const uint8_t *addresses, size_t address_count, size_t *IPNETWORK_ALONE indexes, size_t index_count,
-    uint8_t *IPNETWORK_ALONE faults, size_t fault_count);
-
 /* Makes an index of the list of a set, as aggregate leaves it: index_length numbers of 32 bits in the caller's memory,
  * by which the next calls search the list in a few steps. IPNETWORK_PREFIX if a prefix length is greater than the
  * width, else IPNETWORK_NO_SET if the list is not that of a set: in such a list, the search of an address may miss it.
@@ -380,8 +333,8 @@ IPNETWORK_CHECKED_FAULT ipnetwork_fault ipnetwork_v6_table_find_column(const ipn
  * equal size, the least possible power of two. index[0] is the exponent of that power, and each other index[i] is the
  * number of blocks that begin before part i, at most 2^32 - 1. ipnetwork_index_size writes how long the index of
  * block_count blocks should be: four numbers for each block, but at most 2^20. A shorter index makes a search slower, a
- * longer one hardly faster; with none (NULL and length 0), a search takes as long as without an index. If the list
- * changes, make its index again. */
+ * longer one hardly faster; with none (NULL and length 0) it is a binary search of the list. If the list changes, make
+ * its index again. */
 IPNETWORK_CHECKED ipnetwork_fault ipnetwork_index_size(size_t block_count, size_t *IPNETWORK_ALONE index_length);
 IPNETWORK_CHECKED_FAULT ipnetwork_fault ipnetwork_v4_index_make(const ipnetwork_v4 *blocks, size_t block_count,
     uint32_t *IPNETWORK_ALONE index, size_t index_length);
@@ -397,22 +350,38 @@ IPNETWORK_CHECKED_FAULT ipnetwork_fault ipnetwork_v4_table_index_make(const ipne
 IPNETWORK_CHECKED_FAULT ipnetwork_fault ipnetwork_v6_table_index_make(const ipnetwork_v6 *blocks, size_t block_count,
     uint32_t *IPNETWORK_ALONE index, size_t index_length);
 
-/* Do the same as ipnetwork_v4_set_contains, ipnetwork_v6_set_contains, ipnetwork_v4_table_find and
- * ipnetwork_v6_table_find, with the same faults, but by an index of the blocks. The index only says where the search
- * begins. If the blocks ascend, the result is the same whatever the index holds: an index of another list only costs
- * time. If they do not, the result may depend on the index. */
+/* Whether an address is in the set of block_count blocks, as aggregate leaves them: *answer is 1 or 0. index is an
+ * index of the blocks, or NULL with length 0. It only says where the search begins. If the blocks ascend, the result is
+ * the same whatever the index holds: an index of another list only costs time. If they do not, the result may depend on
+ * the index. It is not checked that the list is that of a set. Of an unsorted list, or of one in which a block lies in
+ * another, 1 is right too, but 0 says nothing: aggregate it first, or ask each network of the list by
+ * ipnetwork_v4_contains or ipnetwork_v6_contains. ipnetwork_v4_index_make and ipnetwork_v6_index_make refuse a list that
+ * is not that of a set. Not every struct is read: if the structs ascend, the search ends at the last one whose own
+ * address is at or before this address. IPNETWORK_PREFIX exactly if the prefix length of the struct at which the search
+ * ends is greater than the width, which never occurs in the list of a set. */
 IPNETWORK_CHECKED_AT((5, 6)) ipnetwork_fault ipnetwork_v4_index_contains(const ipnetwork_v4 *blocks, size_t block_count,
     const uint32_t *index, size_t index_length, const uint8_t address[4], uint8_t *IPNETWORK_ALONE answer);
 IPNETWORK_CHECKED_AT((5, 6)) ipnetwork_fault ipnetwork_v6_index_contains(const ipnetwork_v6 *blocks, size_t block_count,
     const uint32_t *index, size_t index_length, const uint8_t address[16], uint8_t *IPNETWORK_ALONE answer);
+
+/* Finds the longest block of a table that has an address. A table is block_count blocks without host bits in ascending
+ * order, as ipnetwork_v4_compare and ipnetwork_v6_compare order them, and as ipnetwork_v4_table_make and
+ * ipnetwork_v6_table_make leave them; some may contain others. *place is the place of the block in the table, counted
+ * from 0, and of equal blocks that of the last one. IPNETWORK_NO_MEMBER if no block has the address. index is an index
+ * of the table, or NULL with length 0: what it holds makes no more difference than above. It is not checked that the
+ * list is a table. For any other list the block at *place has the address too, but there may be a longer one, and
+ * IPNETWORK_NO_MEMBER says nothing. Not every struct is read: the search begins at the last block at or before the
+ * address, and goes on from a block that does not have it to the last block before that at which one with the address
+ * can begin. IPNETWORK_PREFIX at the first struct that the search reaches whose prefix length is greater than the
+ * width. */
 IPNETWORK_CHECKED_AT((5, 6)) ipnetwork_fault ipnetwork_v4_index_find(const ipnetwork_v4 *blocks, size_t block_count,
     const uint32_t *index, size_t index_length, const uint8_t address[4], size_t *IPNETWORK_ALONE place);
 IPNETWORK_CHECKED_AT((5, 6)) ipnetwork_fault ipnetwork_v6_index_find(const ipnetwork_v6 *blocks, size_t block_count,
     const uint32_t *index, size_t index_length, const uint8_t address[16], size_t *IPNETWORK_ALONE place);
 
-/* The same for many addresses in one call: answers[i] or places[i], and faults[i], are what the call for one address
+/* Both for many addresses in one call: answers[i] or places[i], and faults[i], are what the call for one address
  * leaves and returns for address i. A fault leaves the answer or place of its address unchanged, and does not stop the
- * call. If the blocks are not in ascending order, the result may come from another block than in the call for one
+ * call. If the blocks are not in ascending order, an answer may come from another block than in the call for one
  * address. There are address_count addresses, of 4 or 16 octets each, one after the other. The rest of answers or
  * places, and faults, is not written. IPNETWORK_SHORT_BUFFER if there is room for fewer answers or places, or faults,
  * than addresses: then nothing is written. */
@@ -441,9 +410,8 @@ IPNETWORK_CHECKED_FAULT ipnetwork_fault ipnetwork_v6_index_find_column(const ipn
  * and IPNETWORK_NO_PLACE says nothing. IPNETWORK_PREFIX if a prefix length is greater than the width, else
  * IPNETWORK_SHORT_BUFFER if range_room or place_room, the numbers of ranges and places that there is room for, is less
  * than 2 * block_count: then nothing is written. The call takes the time of a sort, and of a call of
- * ipnetwork_v4_table_find or ipnetwork_v6_table_find for each range; with an index of blocks, of
- * ipnetwork_v4_index_find or ipnetwork_v6_index_find. index may be NULL with length 0; for a table, the index of
- * another list only costs time. */
+ * ipnetwork_v4_index_find or ipnetwork_v6_index_find with this index for each range. index is an index of blocks, or
+ * NULL with length 0; for a table, the index of another list only costs time. */
 #define IPNETWORK_NO_PLACE ((size_t)-1)
 IPNETWORK_CHECKED_AT((9)) ipnetwork_fault ipnetwork_v4_ranges_make(const ipnetwork_v4 *blocks, size_t block_count,
     const uint32_t *index, size_t index_length, ipnetwork_v4 *IPNETWORK_ALONE ranges, size_t range_room,
@@ -466,13 +434,13 @@ IPNETWORK_CHECKED_AT((11)) ipnetwork_fault ipnetwork_v6_ranges_make_numbered(con
     ipnetwork_v6 *IPNETWORK_ALONE ranges, size_t range_room, size_t *IPNETWORK_ALONE beside, size_t beside_room,
     size_t *IPNETWORK_ALONE range_count);
 
-/* Find what ipnetwork_v4_table_find and ipnetwork_v6_table_find find in a table, but by its ranges and their places, as
+/* Find what ipnetwork_v4_index_find and ipnetwork_v6_index_find find in a table, but by its ranges and their places, as
  * the calls above make them, and by an index of the ranges, as ipnetwork_v4_table_index_make and
- * ipnetwork_v6_table_index_make make it. *place is the place of the last range that begins at or before the address. IPNETWORK_NO_MEMBER if there is no
- * such range, or if its place is IPNETWORK_NO_PLACE or missing: then *place is not written. The index only says where
- * the search begins: if the ranges ascend, the result is the same whatever it holds. Ranges and places are not checked:
- * of any others, *place is what the places say, and if the ranges do not ascend, it may be the place of another range.
- * If the table changes, make them again. */
+ * ipnetwork_v6_table_index_make make it, or NULL with length 0. *place is the place of the last range that begins at or
+ * before the address. IPNETWORK_NO_MEMBER if there is no such range, or if its place is IPNETWORK_NO_PLACE or missing:
+ * then *place is not written. The index only says where the search begins: if the ranges ascend, the result is the same
+ * whatever it holds. Ranges and places are not checked: of any others, *place is what the places say, and if the ranges
+ * do not ascend, it may be the place of another range. If the table changes, make them again. */
 IPNETWORK_CHECKED_AT((7, 8)) ipnetwork_fault ipnetwork_v4_ranges_find(const ipnetwork_v4 *ranges, size_t range_count,
     const size_t *places, size_t place_count, const uint32_t *index, size_t index_length, const uint8_t address[4],
     size_t *IPNETWORK_ALONE place);

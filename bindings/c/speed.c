@@ -135,7 +135,7 @@ static uint32_t number_of(const uint8_t octets[4]) {
     return (uint32_t)octets[0] << 24 | (uint32_t)octets[1] << 16 | (uint32_t)octets[2] << 8 | octets[3];
 }
 
-/* The same as ipnetwork_v4_set_contains, as one would write it in C. */
+/* The same as ipnetwork_v4_index_contains without an index, as one would write it in C. */
 __attribute__((noinline)) static ipnetwork_fault plain_contains(const ipnetwork_v4 *blocks, size_t count, const uint8_t address[4], uint8_t *has) {
     uint32_t number = number_of(address);
     size_t from = 0, to = count;
@@ -156,13 +156,13 @@ __attribute__((noinline)) static ipnetwork_fault plain_contains(const ipnetwork_
     return IPNETWORK_OK;
 }
 
-static uint64_t set_v4(size_t i) { return ipnetwork_v4_set_contains(set_blocks, set_count, searched[i], &answer) + answer; }
+static uint64_t set_v4(size_t i) { return ipnetwork_v4_index_contains(set_blocks, set_count, NULL, 0, searched[i], &answer) + answer; }
 static uint64_t plain_set_v4(size_t i) { return plain_contains(set_blocks, set_count, searched[i], &answer) + answer; }
 static uint64_t table_v4(size_t i) {
-    return ipnetwork_v4_table_find(table_blocks, MANY, searched[i], indexes) + indexes[0];
+    return ipnetwork_v4_index_find(table_blocks, MANY, NULL, 0, searched[i], indexes) + indexes[0];
 }
 static uint64_t table_column_v4(size_t i) {
-    return i != 0 ? 0 : ipnetwork_v4_table_find_column(table_blocks, MANY, searched[0], COUNT, indexes, COUNT, faults, COUNT) + indexes[1];
+    return i != 0 ? 0 : ipnetwork_v4_index_find_column(table_blocks, MANY, NULL, 0, searched[0], COUNT, indexes, COUNT, faults, COUNT) + indexes[1];
 }
 
 /* The same by an index, and sets of IPv6 networks with prefix lengths from 36 to 64, which all share the first 20
@@ -249,7 +249,7 @@ static uint64_t table_by(size_t i) {
 static uint64_t table_column_by(size_t i) {
     return i != 0 ? 0 : ipnetwork_v4_index_find_column(table_blocks, MANY, index_table, length_table, searched[0], COUNT, indexes, COUNT, faults, COUNT) + indexes[1];
 }
-static uint64_t set_v6(size_t i) { return ipnetwork_v6_set_contains(set_six, set_six_count, searched_six[i], &answer) + answer; }
+static uint64_t set_v6(size_t i) { return ipnetwork_v6_index_contains(set_six, set_six_count, NULL, 0, searched_six[i], &answer) + answer; }
 static uint64_t six_by(size_t i) {
     return ipnetwork_v6_index_contains(set_six, set_six_count, index_six, length_six, searched_six[i], &answer) + answer;
 }
@@ -281,7 +281,7 @@ static void measure(const struct row *rows, size_t count) {
         }
     }
     for (size_t row = 0; row < count; row++)
-        printf("%-34s %6.1f ns\n", rows[row].name, least[row]);
+        printf("%-40s %6.1f ns\n", rows[row].name, least[row]);
 }
 
 int main(void) {
@@ -290,12 +290,12 @@ int main(void) {
         {"ipnetwork_v4_read_column", read_column_v4}, {"ipnetwork_v6_read_column", read_column_v6}};
     static const struct row members[] = {{"ipnetwork_v4_contains", has_v4}, {"ipnetwork_v6_contains", has_v6},
         {"ipnetwork_v4_contains_column", column_v4}, {"ipnetwork_v6_contains_column", column_v6}};
-    static const struct row searches[] = {{"ipnetwork_v4_set_contains", set_v4}, {"a plain binary search in C", plain_set_v4},
-        {"ipnetwork_v4_table_find", table_v4}, {"ipnetwork_v4_table_find_column", table_column_v4}};
+    static const struct row searches[] = {{"ipnetwork_v4_index_contains, no index", set_v4}, {"a plain binary search in C", plain_set_v4},
+        {"ipnetwork_v4_index_find, no index", table_v4}, {"ipnetwork_v4_index_find_column, no index", table_column_v4}};
     static const struct row by_index[] = {{"ipnetwork_v4_index_contains", set_by}, {"ipnetwork_v4_index_contains_column", set_column_by},
         {"ipnetwork_v4_index_find", table_by}, {"ipnetwork_v4_index_find_column", table_column_by},
         {"ipnetwork_v4_ranges_place", place_by}, {"ipnetwork_v4_ranges_find", ranges_by}, {"ipnetwork_v4_ranges_find_column", ranges_column_by}, {"ipnetwork_v6_ranges_find_column", ranges_column_six},
-        {"ipnetwork_v6_set_contains", set_v6}, {"ipnetwork_v6_index_contains", six_by}, {"ipnetwork_v6_index_contains_column", six_column_by}};
+        {"ipnetwork_v6_index_contains, no index", set_v6}, {"ipnetwork_v6_index_contains", six_by}, {"ipnetwork_v6_index_contains_column", six_column_by}};
     make();
     join();
     make_lists();

@@ -439,44 +439,24 @@ static void columns(void) {
     CHECK("NULL", ipnetwork_v4_contains_column(&four, NULL, 0, NULL, 0) == YES);
 }
 
-/* Lists of each length up to 6, in blocks of exactly their size. */
-static void lists(void) {
-    static const char *const fours[] = {"10.0.0.7/8", "192.0.2.0/25", "10.1.0.0/16", "192.0.2.128/25", "0.0.0.0/0", "8.8.8.8"};
-    static const char *const sixes[] = {"2001:db8::/33", "::1", "fe80::7/10", "2001:db8:8000::/33", "::/0", "::2/127"};
-    static const uint8_t asked[] = {192, 0, 2, 200}, asked_six[] = {0x20, 1, 0x0d, 0xb8, 0x80, 0, 0, 0, 0, 0, 0, 0, 0, 0, 0, 1};
-    for (size_t count = 0; count <= 6; count++) {
-        ipnetwork_v4 *four = malloc(count * sizeof *four);
-        ipnetwork_v6 *six = malloc(count * sizeof *six);
-        for (size_t i = 0; i < count; i++) {
-            four[i] = v4(fours[i]);
-            six[i] = v6(sixes[i]);
-        }
-        uint8_t answer = 77;
-        CHECK("list", ipnetwork_v4_list_contains(four, count, asked, &answer) == YES && answer == (count >= 4));
-        CHECK("list", ipnetwork_v6_list_contains(six, count, asked_six, &answer) == YES && answer == (count >= 4));
-        for (size_t bad = 0; bad < count; bad++) {
-            uint8_t kept = four[bad].prefix;
-            answer = 77;
-            four[bad].prefix = 33;
-            CHECK("list", ipnetwork_v4_list_contains(four, count, asked, &answer) == PREF && answer == 77);
-            four[bad].prefix = kept;
-            kept = six[bad].prefix;
-            six[bad].prefix = 129;
-            CHECK("list", ipnetwork_v6_list_contains(six, count, asked_six, &answer) == PREF && answer == 77);
-            six[bad].prefix = kept;
-        }
-        free(four);
-        free(six);
-    }
-    uint8_t answer = 77;
-    CHECK("NULL", ipnetwork_v4_list_contains(NULL, 0, asked, &answer) == YES && answer == 0);
-}
-
 /* Pseudorandom numbers, the same in each run. */
 static uint32_t number(void) {
     static uint32_t state = 20;
     state = state * 1664525 + 1013904223;
     return state >> 16;
+}
+
+/* Whether an address is in one of several networks, in any order: each is asked. */
+static uint8_t in_fours(const ipnetwork_v4 *networks, size_t count, const uint8_t address[4]) {
+    uint8_t has = 0;
+    for (size_t i = 0; i < count && has == 0; i++) CHECK("list", ipnetwork_v4_contains(&networks[i], address, &has) == YES);
+    return has;
+}
+
+static uint8_t in_sixes(const ipnetwork_v6 *networks, size_t count, const uint8_t address[16]) {
+    uint8_t has = 0;
+    for (size_t i = 0; i < count && has == 0; i++) CHECK("list", ipnetwork_v6_contains(&networks[i], address, &has) == YES);
+    return has;
 }
 
 /* For random lists of networks within 256 addresses, the aggregate has the same addresses; its blocks ascend, have no
@@ -505,11 +485,10 @@ static void aggregates(void) {
         CHECK("aggregate", ipnetwork_v6_aggregate(count == 0 ? NULL : six, count, &told[1]) == YES);
         CHECK("aggregate", told[0] <= count && told[1] == told[0]);
         for (unsigned host = 0; host < 256; host++) {
-            uint8_t was = 77, is = 77;
             base_four.address[3] = base_six.address[15] = (uint8_t)host;
-            CHECK("list", ipnetwork_v4_list_contains(given_four, count, base_four.address, &was) == YES);
-            CHECK("list", ipnetwork_v4_list_contains(four, told[0], base_four.address, &is) == YES && is == was);
-            CHECK("list", ipnetwork_v6_list_contains(six, told[1], base_six.address, &is) == YES && is == was);
+            uint8_t was = in_fours(given_four, count, base_four.address);
+            CHECK("list", in_fours(four, told[0], base_four.address) == was);
+            CHECK("list", in_sixes(six, told[1], base_six.address) == was);
         }
         unsigned next = 0, width = 0;
         for (size_t i = 0; i < told[0]; i++) {
@@ -590,8 +569,8 @@ static void sets(void) {
             uint8_t in_four = 77, in_six = 77, address[4] = {192, 0, 2, (uint8_t)low};
             uint8_t address_six[16] = {0x20, 1, 0x0d, 0xb8};
             address_six[15] = (uint8_t)low;
-            CHECK("set", ipnetwork_v4_set_contains(blocks, count, address, &in_four) == YES && in_four == has[low]);
-            CHECK("set", ipnetwork_v6_set_contains(blocks_six, count, address_six, &in_six) == YES && in_six == has[low]);
+            CHECK("set", ipnetwork_v4_index_contains(blocks, count, NULL, 0, address, &in_four) == YES && in_four == has[low]);
+            CHECK("set", ipnetwork_v6_index_contains(blocks_six, count, NULL, 0, address_six, &in_six) == YES && in_six == has[low]);
         }
         leave_edge(four, room * sizeof *four);
         leave_edge(six, room * sizeof *six);
@@ -601,11 +580,11 @@ static void sets(void) {
     uint8_t answer = 77;
     past.prefix = 33;
     past_six.prefix = 129;
-    CHECK("past", ipnetwork_v4_set_contains(&past, 1, past.address, &answer) == PREF && answer == 77);
-    CHECK("past", ipnetwork_v6_set_contains(&past_six, 1, past_six.address, &answer) == PREF && answer == 77);
-    CHECK("NULL", ipnetwork_v4_set_contains(NULL, 0, past.address, &answer) == YES && answer == 0);
+    CHECK("past", ipnetwork_v4_index_contains(&past, 1, NULL, 0, past.address, &answer) == PREF && answer == 77);
+    CHECK("past", ipnetwork_v6_index_contains(&past_six, 1, NULL, 0, past_six.address, &answer) == PREF && answer == 77);
+    CHECK("NULL", ipnetwork_v4_index_contains(NULL, 0, NULL, 0, past.address, &answer) == YES && answer == 0);
     answer = 77;
-    CHECK("NULL", ipnetwork_v6_set_contains(NULL, 0, past_six.address, &answer) == YES && answer == 0);
+    CHECK("NULL", ipnetwork_v6_index_contains(NULL, 0, NULL, 0, past_six.address, &answer) == YES && answer == 0);
     /* The search reads the last struct at or before the address, and no other. */
     ipnetwork_v4 last[2] = {v4("10.0.0.0/8"), past};
     ipnetwork_v6 last_six[2] = {v6("::/8"), past_six};
@@ -614,11 +593,11 @@ static void sets(void) {
     last[1].address[0] = 192;
     last_six[1].address[0] = 32;
     answer = 77;
-    CHECK("past", ipnetwork_v4_set_contains(last, 2, after, &answer) == PREF && answer == 77);
-    CHECK("past", ipnetwork_v6_set_contains(last_six, 2, after_six, &answer) == PREF && answer == 77);
-    CHECK("past", ipnetwork_v4_set_contains(last, 2, first, &answer) == YES && answer == 1);
+    CHECK("past", ipnetwork_v4_index_contains(last, 2, NULL, 0, after, &answer) == PREF && answer == 77);
+    CHECK("past", ipnetwork_v6_index_contains(last_six, 2, NULL, 0, after_six, &answer) == PREF && answer == 77);
+    CHECK("past", ipnetwork_v4_index_contains(last, 2, NULL, 0, first, &answer) == YES && answer == 1);
     answer = 77;
-    CHECK("past", ipnetwork_v6_set_contains(last_six, 2, first_six, &answer) == YES && answer == 1);
+    CHECK("past", ipnetwork_v6_index_contains(last_six, 2, NULL, 0, first_six, &answer) == YES && answer == 1);
 }
 
 typedef ipnetwork_fault (*operation_v4)(const ipnetwork_v4 *, size_t, const ipnetwork_v4 *, size_t, ipnetwork_v4 *, size_t, size_t *);
@@ -778,9 +757,9 @@ static void tables(void) {
                 if (has == 1 && (int)four[i].prefix > longest) longest = four[i].prefix;
             }
             size_t index = 77, again = 77;
-            ipnetwork_fault told = ipnetwork_v4_table_find(four, count, address, &index);
+            ipnetwork_fault told = ipnetwork_v4_index_find(four, count, NULL, 0, address, &index);
             CHECK("table", told == (longest < 0 ? IPNETWORK_NO_MEMBER : YES));
-            CHECK("table", ipnetwork_v6_table_find(six, count, address_six, &again) == told);
+            CHECK("table", ipnetwork_v6_index_find(six, count, NULL, 0, address_six, &again) == told);
             if (longest < 0) {
                 CHECK("table", index == 77 && again == 77);
                 continue;
@@ -798,20 +777,20 @@ static void tables(void) {
     size_t index = 77;
     past.prefix = 33;
     past_six.prefix = 129;
-    CHECK("past", ipnetwork_v4_table_find(&past, 1, past.address, &index) == PREF && index == 77);
-    CHECK("past", ipnetwork_v6_table_find(&past_six, 1, past_six.address, &index) == PREF && index == 77);
-    CHECK("NULL", ipnetwork_v4_table_find(NULL, 0, past.address, &index) == IPNETWORK_NO_MEMBER && index == 77);
-    CHECK("NULL", ipnetwork_v6_table_find(NULL, 0, past_six.address, &index) == IPNETWORK_NO_MEMBER && index == 77);
+    CHECK("past", ipnetwork_v4_index_find(&past, 1, NULL, 0, past.address, &index) == PREF && index == 77);
+    CHECK("past", ipnetwork_v6_index_find(&past_six, 1, NULL, 0, past_six.address, &index) == PREF && index == 77);
+    CHECK("NULL", ipnetwork_v4_index_find(NULL, 0, NULL, 0, past.address, &index) == IPNETWORK_NO_MEMBER && index == 77);
+    CHECK("NULL", ipnetwork_v6_index_find(NULL, 0, NULL, 0, past_six.address, &index) == IPNETWORK_NO_MEMBER && index == 77);
     /* After a block without the address, the search goes on and reaches the struct; after one with it, it does not. */
     ipnetwork_v4 table[2] = {past, v4("10.1.0.0/16")};
     ipnetwork_v6 table_six[2] = {past_six, v6("1::/16")};
     const uint8_t beside[4] = {10, 2, 0, 1}, inside[4] = {10, 1, 0, 1};
     const uint8_t beside_six[16] = {0, 2}, inside_six[16] = {0, 1};
-    CHECK("past", ipnetwork_v4_table_find(table, 2, beside, &index) == PREF && index == 77);
-    CHECK("past", ipnetwork_v6_table_find(table_six, 2, beside_six, &index) == PREF && index == 77);
-    CHECK("past", ipnetwork_v4_table_find(table, 2, inside, &index) == YES && index == 1);
+    CHECK("past", ipnetwork_v4_index_find(table, 2, NULL, 0, beside, &index) == PREF && index == 77);
+    CHECK("past", ipnetwork_v6_index_find(table_six, 2, NULL, 0, beside_six, &index) == PREF && index == 77);
+    CHECK("past", ipnetwork_v4_index_find(table, 2, NULL, 0, inside, &index) == YES && index == 1);
     index = 77;
-    CHECK("past", ipnetwork_v6_table_find(table_six, 2, inside_six, &index) == YES && index == 1);
+    CHECK("past", ipnetwork_v6_index_find(table_six, 2, NULL, 0, inside_six, &index) == YES && index == 1);
 }
 
 /* A random network within 256 addresses, of either family, with host bits. */
@@ -864,12 +843,12 @@ static void tables_made(void) {
             memcpy(addresses_six[host], ((uint8_t[]){0x20, 1, 0x0d, 0xb8}), 4);
             addresses_six[host][15] = (uint8_t)host;
         }
-        CHECK("column", ipnetwork_v4_table_find_column(fours, count, addresses[0], 256, indexes, 255, faults, 257) == IPNETWORK_SHORT_BUFFER);
-        CHECK("column", ipnetwork_v6_table_find_column(sixes, count, addresses_six[0], 256, indexes, 257, faults, 255) == IPNETWORK_SHORT_BUFFER);
+        CHECK("column", ipnetwork_v4_index_find_column(fours, count, NULL, 0, addresses[0], 256, indexes, 255, faults, 257) == IPNETWORK_SHORT_BUFFER);
+        CHECK("column", ipnetwork_v6_index_find_column(sixes, count, NULL, 0, addresses_six[0], 256, indexes, 257, faults, 255) == IPNETWORK_SHORT_BUFFER);
         for (size_t i = 0; i < 257 * sizeof *indexes; i++) CHECK("written", ((uint8_t *)indexes)[i] == 77);
         for (size_t i = 0; i < sizeof faults; i++) CHECK("written", faults[i] == 77);
-        CHECK("column", ipnetwork_v4_table_find_column(fours, count, addresses[0], 256, indexes, 257, faults, 257) == YES);
-        CHECK("column", ipnetwork_v6_table_find_column(sixes, count, addresses_six[0], 256, indexes_six, 257, faults_six, 257) == YES);
+        CHECK("column", ipnetwork_v4_index_find_column(fours, count, NULL, 0, addresses[0], 256, indexes, 257, faults, 257) == YES);
+        CHECK("column", ipnetwork_v6_index_find_column(sixes, count, NULL, 0, addresses_six[0], 256, indexes_six, 257, faults_six, 257) == YES);
         CHECK("past", faults[256] == 77 && faults_six[256] == 77);
         for (size_t i = 256 * sizeof *indexes; i < 257 * sizeof *indexes; i++)
             CHECK("past", ((uint8_t *)indexes)[i] == 77 && ((uint8_t *)indexes_six)[i] == 77);
@@ -880,7 +859,7 @@ static void tables_made(void) {
                 CHECK("made", ipnetwork_v4_contains(&four[i], addresses[host], &has) == YES);
                 if (has == 1 && (wanted == count || four[i].prefix >= four[wanted].prefix)) wanted = i;
             }
-            CHECK("column", ipnetwork_v4_table_find(fours, count, addresses[host], &alone) == faults[host]);
+            CHECK("column", ipnetwork_v4_index_find(fours, count, NULL, 0, addresses[host], &alone) == faults[host]);
             CHECK("column", faults[host] == (wanted == count ? IPNETWORK_NO_MEMBER : YES) && faults_six[host] == faults[host]);
             CHECK("column", indexes_six[host] == indexes[host]);
             if (wanted == count) CHECK("column", ((uint8_t *)&indexes[host])[0] == 77);
@@ -906,15 +885,15 @@ static void tables_made(void) {
     }
     CHECK("NULL", ipnetwork_v4_table_make(NULL, 0, NULL, 0, NULL, 0) == YES);
     CHECK("NULL", ipnetwork_v6_table_make(NULL, 0, NULL, 0, NULL, 0) == YES);
-    CHECK("NULL", ipnetwork_v4_table_find_column(NULL, 0, NULL, 0, NULL, 0, NULL, 0) == YES);
-    CHECK("NULL", ipnetwork_v6_table_find_column(NULL, 0, NULL, 0, NULL, 0, NULL, 0) == YES);
+    CHECK("NULL", ipnetwork_v4_index_find_column(NULL, 0, NULL, 0, NULL, 0, NULL, 0, NULL, 0) == YES);
+    CHECK("NULL", ipnetwork_v6_index_find_column(NULL, 0, NULL, 0, NULL, 0, NULL, 0, NULL, 0) == YES);
     /* A row whose search reaches a prefix length greater than the width has that fault, and does not stop the
      * others. */
     ipnetwork_v4 bad[2] = {v4("10.0.0.0/8"), v4("192.0.2.0/24")};
     uint8_t asked[3][4] = {{10, 0, 0, 1}, {192, 0, 2, 1}, {9, 0, 0, 1}}, told[3] = {77, 77, 77};
     size_t found[3] = {77, 77, 77};
     bad[1].prefix = 33;
-    CHECK("past", ipnetwork_v4_table_find_column(bad, 2, asked[0], 3, found, 3, told, 3) == YES);
+    CHECK("past", ipnetwork_v4_index_find_column(bad, 2, NULL, 0, asked[0], 3, found, 3, told, 3) == YES);
     CHECK("past", told[0] == YES && told[1] == PREF && told[2] == IPNETWORK_NO_MEMBER && found[0] == 0 && found[1] == 77 && found[2] == 77);
 }
 
@@ -950,16 +929,16 @@ static void asked_by(const ipnetwork_v4 *fours, const ipnetwork_v6 *sixes, size_
         size_t place, found;
         memset(&place, 77, sizeof place);
         found = place;
-        CHECK("index", ipnetwork_v4_set_contains(fours, count, addresses[i], &answer) == faults[i] && answer == answers[i]);
+        CHECK("index", ipnetwork_v4_index_contains(fours, count, NULL, 0, addresses[i], &answer) == faults[i] && answer == answers[i]);
         CHECK("index", ipnetwork_v4_index_contains(fours, count, index, length, addresses[i], &by_index) == faults[i] && by_index == answer);
-        CHECK("index", ipnetwork_v4_table_find(fours, count, addresses[i], &place) == found_faults[i] && place == places[i]);
+        CHECK("index", ipnetwork_v4_index_find(fours, count, NULL, 0, addresses[i], &place) == found_faults[i] && place == places[i]);
         CHECK("index", ipnetwork_v4_index_find(fours, count, index, length, addresses[i], &found) == found_faults[i] && found == place);
         answer = by_index = 77;
         memset(&place, 77, sizeof place);
         found = place;
-        CHECK("index", ipnetwork_v6_set_contains(sixes, count, addresses_six[i], &answer) == faults_six[i] && answer == answers_six[i]);
+        CHECK("index", ipnetwork_v6_index_contains(sixes, count, NULL, 0, addresses_six[i], &answer) == faults_six[i] && answer == answers_six[i]);
         CHECK("index", ipnetwork_v6_index_contains(sixes, count, index, length, addresses_six[i], &by_index) == faults_six[i] && by_index == answer);
-        CHECK("index", ipnetwork_v6_table_find(sixes, count, addresses_six[i], &place) == found_faults_six[i] && place == places_six[i]);
+        CHECK("index", ipnetwork_v6_index_find(sixes, count, NULL, 0, addresses_six[i], &place) == found_faults_six[i] && place == places_six[i]);
         CHECK("index", ipnetwork_v6_index_find(sixes, count, index, length, addresses_six[i], &found) == found_faults_six[i] && found == place);
     }
 }
@@ -1806,7 +1785,6 @@ int main(int count, char **words) {
     questions_v6();
     past_the_width();
     columns();
-    lists();
     aggregates();
     sets();
     operations();

@@ -1,6 +1,6 @@
 #!/usr/bin/env bash
 # Merges a large list by several processes: it is cut at line ends, each part is merged by itself, and what comes out is
-# merged again. The result is the merge of the whole list (the law `unions_of_parts_print_the_same` of `cidr_merge`).
+# merged again. The result is the merge of the whole list, as `tests/cidr_merge` compares.
 #
 # usage: examples/cidr_merge/in_parts.sh [OPTION ..] < LIST > MERGED
 #

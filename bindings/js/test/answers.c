@@ -94,8 +94,8 @@ static void print_address(const uint8_t *octets, uint8_t length) {
         for (size_t i = 0; i < count_##V; i++) {                                                  \
             uint8_t octets[OCTETS], answer;                                                       \
             must(ipnetwork_##V##_broadcast(window_##V + i, octets));                              \
-            must(ipnetwork_##V##_set_contains(sets[0], counts[0], octets, &answer));              \
-            must(ipnetwork_##V##_table_find(blocks, count_##V, octets, &told));                   \
+            must(ipnetwork_##V##_index_contains(sets[0], counts[0], NULL, 0, octets, &answer));   \
+            must(ipnetwork_##V##_index_find(blocks, count_##V, NULL, 0, octets, &told));          \
             printf(" %u %zu", answer, places[told]);                                              \
         }                                                                                         \
         printf("\n");                                                                             \

@@ -1,1 +1,3 @@
 mod Marks
+pub mod Known
+pub mod Words

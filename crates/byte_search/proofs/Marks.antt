@@ -1,11 +1,6 @@
 -- What the marks of a vector say about its bytes.
-use Rattle.std.proofs.Common.{◌≡◌, ◌≢◌, ℕ, ◌+◌, ◌-◌, ◌*◌, ◌/◌, ◌^◌, ◌<◌, ◌≤◌, ◌==◌, zero, suc, Bool, true, false, cond, not, List, [], ◌∷◌, length, take, drop, map, sym, ap, ◌∙◌, arith, inl, inr}
-use Rattle.std.proofs.lemmas.Bool.{eqb-true, eqb-false, cases_lt}
-use Rattle.std.proofs.lemmas.List.{drop-take, drop-drop}
-use Rattle.std.proofs.lemmas.Simd.{length-chunk, trailing_mask_l, none_from_empty_mask, run_in_chunk_fails, run_in_chunk_stops}
+use Rattle.byte_search.proofs.Words.{◌≡◌, ◌≢◌, ℕ, ◌+◌, ◌-◌, ◌*◌, ◌/◌, ◌^◌, ◌<◌, ◌≤◌, ◌==◌, zero, suc, Bool, true, false, cond, not, List, [], ◌∷◌, length, take, drop, map, sym, ap, ◌∙◌, arith, inl, inr, eqb-true, eqb-false, cases_lt, drop-take, drop-drop, length-chunk, trailing_mask_l, none_from_empty_mask, run_in_chunk_fails, run_in_chunk_stops, prefix_len, IsAbsent, IsNext}
 use native.Mathlib.Nat.{pow-suc, mul_comm, div-div-eq-div-mul}
-use Rattle.std.specs.List.{prefix_len}
-use Rattle.byte_search.specs.Bytes.{IsAbsent, IsNext}
 use lib.Lanes.{mask_l}
 use lib.Count.{count_trailing_zeros}
 
@@ -28,12 +23,14 @@ one_passes : (p : ℕ → Bool) (xs : List ℕ) → 0 < mask_l (map p xs) → pr
 one_passes p [] marked = absurd (omega arith)
 one_passes p (x ∷ xs) marked = first (p x) marked (one_passes p xs)
   where
-    first : (bit : Bool) → 0 < cond bit 1 0 + 2 * mask_l (map p xs) → (0 < mask_l (map p xs) → prefix_len (λ y. not (p y)) xs < length xs) → cond (not bit) (1 + prefix_len (λ y. not (p y)) xs) 0 < suc (length xs)
+    first : (bit : Bool) → 0 < cond bit 1 0 + 2 * mask_l (map p xs) → (0 < mask_l (map p xs) → prefix_len
+        (λ y. not (p y)) xs < length xs) → cond (not bit) (1 + prefix_len (λ y. not (p y)) xs) 0 < suc (length xs)
     first true some later = omega arith
     first false some later = let below = later (omega arith) in omega arith
 
 -- a byte that occurs neither before nor after a position does not occur at all
-pub further : (byte : ℕ) (text : List ℕ) (from middle end : ℕ) → IsAbsent byte text from middle → IsAbsent byte text middle end → IsAbsent byte text from end
+pub further : (byte : ℕ) (text : List ℕ) (from middle end : ℕ) → IsAbsent byte text from middle
+    → IsAbsent byte text middle end → IsAbsent byte text from end
 further byte text from middle end before after position low high = elim (cases_lt position middle) [
   | inl left ↦ before position low left
   | inr right ↦ after position right high
@@ -51,14 +48,17 @@ module _ (byte : ℕ) (text : List ℕ) (at count marks : ℕ) (within : at + co
       let size : length (take count (drop at text)) ≡ count = length-chunk at count text within in
       let set : 0 < mask_l (map (λ x. x == byte) (take count (drop at text))) = omega (arith, marked, some) in
       let before : count_trailing_zeros 64 marks ≡ prefix_len (λ x. not (x == byte)) (take count (drop at text))
-      = ap (count_trailing_zeros 64) marked ∙ trailing_mask_l (λ x. x == byte) 64 (take count (drop at text)) (omega (arith, size)) set in
+      = ap (count_trailing_zeros 64) marked ∙ trailing_mask_l (λ x. x == byte) 64 (take count (drop at text))
+      (omega (arith, size)) set in
       let below : count_trailing_zeros 64 marks < count
       = omega (arith, before, size, one_passes (λ x. x == byte) (take count (drop at text)) set) in
       record {
         behind = omega arith;
         within = omega arith;
-        between = λ position low high. eqb-false _ _ (run_in_chunk_fails (λ x. x == byte) text at count (count_trailing_zeros 64 marks) 0 within before position low high);
-        there = eqb-true _ _ (run_in_chunk_stops (λ x. x == byte) text at count (count_trailing_zeros 64 marks) 0 within before below);
+        between = λ position low high. eqb-false _ _ (run_in_chunk_fails (λ x. x == byte) text at count
+            (count_trailing_zeros 64 marks) 0 within before position low high);
+        there = eqb-true _ _ (run_in_chunk_stops (λ x. x == byte) text at count (count_trailing_zeros 64 marks) 0 within
+            before below);
       }
 
 -- the marks of a vector that begins before a position, without those of the bytes before the position
@@ -75,7 +75,8 @@ left_of byte text last at lanes marks low high marked =
     ∙ ap (take (last + lanes - at)) (drop-drop passed last text ∙ ap (λ n. drop n text) on))
 
 -- the next position from `from` on, if the byte does not occur before `middle`
-pub onward : (byte : ℕ) (text : List ℕ) (from middle at : ℕ) → from ≤ middle → IsAbsent byte text from middle → IsNext byte text middle at → IsNext byte text from at
+pub onward : (byte : ℕ) (text : List ℕ) (from middle at : ℕ) → from ≤ middle → IsAbsent byte text from middle
+    → IsNext byte text middle at → IsNext byte text from at
 onward byte text from middle at low none h = record {
   behind = omega (arith, h.behind);
   within = h.within;

@@ -1,27 +1,26 @@
 -- The answer to a line, depending on its words.
-use Rattle.std.proofs.Common.{◌≡◌, ℕ, List, ◌∷◌, Option, None, Some, refl, ap, ◌∙◌, subst}
-use Rattle.lines.specs.Buffers.{Filled}
-use Rattle.cidr.specs.Private.Replies.{Adds}
-use Rattle.cidr.specs.Private.Words.{IsLastWord, IsWordBefore}
-use Rattle.cidr.specs.Requests.{unknown, request_in, one_word_request, two_words_request}
-use Rattle.cidr.specs.Words.{words}
+use Rattle.cidr.proofs.Words.{◌≡◌, ℕ, List, ◌∷◌, Option, None, Some, refl, ap, ◌∙◌, subst, Filled, Adds, IsLastWord, IsWordBefore, unknown, request_in, one_word_request, two_words_request, words}
 use Rattle.cidr.proofs.Cuts.{words_cons}
 
 pub one_word_line : (line : List ℕ) → IsLastWord line → request_in (words line) ≡ unknown
 unfolding request_in
 one_word_line line e = ap request_in e
 
-pub two_word_line : (line command word : List ℕ) → IsWordBefore line command word → IsLastWord word → request_in (words line) ≡ one_word_request command word
+pub two_word_line : (line command word : List ℕ) → IsWordBefore line command word → IsLastWord word
+    → request_in (words line) ≡ one_word_request command word
 unfolding request_in
 two_word_line line command word e f = ap request_in (e ∙ ap (λ ws. command ∷ ws) f)
 
-pub three_word_line : (line command rest first second : List ℕ) → IsWordBefore line command rest → IsWordBefore rest first second → IsLastWord second
+pub three_word_line : (line command rest first second : List ℕ) → IsWordBefore line command rest
+    → IsWordBefore rest first second → IsLastWord second
     → request_in (words line) ≡ two_words_request command first second
 unfolding request_in
-three_word_line line command rest first second e f g = ap request_in (e ∙ ap (λ ws. command ∷ ws) (f ∙ ap (λ ws. first ∷ ws) g))
+three_word_line line command rest first second e f g =
+    ap request_in (e ∙ ap (λ ws. command ∷ ws) (f ∙ ap (λ ws. first ∷ ws) g))
 
 -- a line of more than three words
-pub longer_line : (line command rest first more second last : List ℕ) → IsWordBefore line command rest → IsWordBefore rest first more → IsWordBefore more second last
+pub longer_line : (line command rest first more second last : List ℕ) → IsWordBefore line command rest
+    → IsWordBefore rest first more → IsWordBefore more second last
     → request_in (words line) ≡ unknown
 unfolding request_in
 longer_line line command rest first more second last e f g =

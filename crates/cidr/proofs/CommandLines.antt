@@ -1,9 +1,5 @@
 -- What the words of a line request.
-use Rattle.std.proofs.Common.{◌≡◌, ℕ, Bool, false, cond, List, [], ◌∷◌, codes, refl, sym, ap, ◌∙◌, subst, arith, inl}
-use Rattle.cidr.specs.Laws.Commands.{HasWords, IsAnswered, IsCommand, UnknownLaw, LongLaw}
-use Rattle.cidr.specs.Output.{MayGet}
-use Rattle.cidr.specs.Requests.{Request, Plain, unknown, one_word_request, two_words_request, request_in, request_of}
-use Rattle.cidr.specs.Words.{words}
+use Rattle.cidr.proofs.Words.{◌≡◌, ℕ, Bool, false, cond, List, [], ◌∷◌, codes, refl, sym, ap, ◌∙◌, subst, arith, inl, HasWords, IsAnswered, IsCommand, UnknownLaw, LongLaw, MayGet, Request, Plain, unknown, one_word_request, two_words_request, request_in, request_of, words}
 use Rattle.cidr.proofs.LongLines.{request_long, request_short}
 use Rattle.cidr.proofs.PlainLines.{differs, plain_gets}
 
@@ -34,7 +30,8 @@ no_one_word name word other =
     (passed _ _ _ _ (differs name (codes "drop") (λ is. other (4, omega arith, sym is)))
     (passed _ _ _ _ (differs name (codes "find") (λ is. other (5, omega arith, sym is))) refl)))))
 
-no_two_words : (name first second : List ℕ) → ¬ (IsCommand (name ∷ first ∷ second ∷ [])) → two_words_request name first second ≡ unknown
+no_two_words : (name first second : List ℕ) → ¬ (IsCommand (name ∷ first ∷ second ∷ []))
+    → two_words_request name first second ≡ unknown
 unfolding two_words_request
 no_two_words name first second other =
     passed _ _ _ _ (differs name (codes "has") (λ is. other (0, omega arith, sym is)))

@@ -1,17 +1,8 @@
 -- The computed output is allowed, and any other allowed output has an answer `out of memory`.
-use Rattle.std.proofs.Common.{◌≡◌, ◌≢◌, ℕ, inl, inr, List, [], ◌∷◌, ◌++◌, refl, ap, ap₂, ◌∙◌, subst}
-use Rattle.std.specs.List.{AllByRecursion}
-use Rattle.std.specs.Str.Lines.{lines}
-use Rattle.cidr.specs.Output.{Gets, RunsOut, MayGet, InTurn, MayAnswer, out_of_memory, replies}
-use Rattle.cidr.specs.Computed.Output.{request_answer, next_routes, answers_from}
-use Rattle.cidr.specs.Laws.Outputs.{FullIsComputed, ComputedIsAllowed, UnrefusedIsComputed}
-use Rattle.cidr.specs.Requests.{Request, Add, Drop, Find, Plain, request_of}
-use Rattle.cidr.specs.Routes.{Routes, no_routes}
-use Rattle.cidr.specs.Turns.{FirstInTurn}
+use Rattle.cidr.proofs.Words.{◌≡◌, ◌≢◌, ℕ, inl, inr, List, [], ◌∷◌, ◌++◌, refl, ap, ap₂, ◌∙◌, subst, AllByRecursion, lines, Gets, RunsOut, MayGet, InTurn, MayAnswer, out_of_memory, replies, request_answer, next_routes, answers_from, FullIsComputed, ComputedIsAllowed, UnrefusedIsComputed, Request, Add, Drop, Find, Plain, request_of, Routes, no_routes, FirstInTurn, AnswerIsComputed, AnswerIsOne}
 use Rattle.cidr.proofs.Found.{find_some, find_one}
 use Rattle.cidr.proofs.Keys.{KeyLaws, HasClearKeys, no_keys, added_key, dropped_key}
 use Rattle.cidr.proofs.Turns.{LineMayGet}
-use Rattle.ipnetwork_table.specs.Laws.{AnswerIsComputed, AnswerIsOne}
 
 -- ---- a request
 
@@ -48,21 +39,30 @@ module _ (computed : AnswerIsComputed ℕ) where
 
   may_compute : (r : Routes) (ls : List (List ℕ)) → MayAnswer r ls (answers_from r ls) (routes_after r ls)
   may_compute r [] = refl
-  may_compute r (l ∷ ls) = (next_routes r (request_of l), inl (gets_computed r (request_of l)), may_compute (next_routes r (request_of l)) ls)
+  may_compute r (l ∷ ls) = (
+    next_routes r (request_of l),
+    inl (gets_computed r (request_of l)),
+    may_compute (next_routes r (request_of l)) ls,
+  )
 
   compute : (r : Routes) (ls : List (List ℕ)) → InTurn Gets r ls (answers_from r ls) (routes_after r ls)
   compute r [] = refl
-  compute r (l ∷ ls) = (next_routes r (request_of l), gets_computed r (request_of l), compute (next_routes r (request_of l)) ls)
+  compute r (l ∷ ls) =
+      (next_routes r (request_of l), gets_computed r (request_of l), compute (next_routes r (request_of l)) ls)
 
   -- answers to the first lines can be extended to answers to all lines
-  pub goes_on_to_all : (r : Routes) (ls xs : List (List ℕ)) → FirstInTurn LineMayGet r ls xs → (ys : List (List ℕ)) × (s : Routes) × MayAnswer r ls (xs ++ ys) s
+  pub goes_on_to_all : (r : Routes) (ls xs : List (List ℕ)) → FirstInTurn LineMayGet r ls xs
+      → (ys : List (List ℕ)) × (s : Routes) × MayAnswer r ls (xs ++ ys) s
   goes_on_to_all r ls [] some = (answers_from r ls, routes_after r ls, may_compute r ls)
   goes_on_to_all r [] (x ∷ xs) some = absurd some
   goes_on_to_all r (l ∷ ls) (x ∷ xs) some =
       let rest = goes_on_to_all some.0 ls xs some.2 in (rest.0, rest.1, (some.0, some.1, rest.2))
 
   pub computed_allowed : ComputedIsAllowed
-  computed_allowed input = (routes_after no_routes (lines input), (answers_from no_routes (lines input), may_compute no_routes (lines input), refl))
+  computed_allowed input = (
+    routes_after no_routes (lines input),
+    (answers_from no_routes (lines input), may_compute no_routes (lines input), refl),
+  )
 
 -- ---- keys without host bits remain so
 
@@ -76,13 +76,15 @@ module _ (laws : KeyLaws) where
 -- ---- nothing else is allowed without an answer `out of memory`
 
 module _ (computed : AnswerIsComputed ℕ) (one : AnswerIsOne ℕ) (laws : KeyLaws) where
-  one_way : (r s : Routes) (q : Request) (x : List ℕ) → HasClearKeys r → Gets r q x s → (x ≡ request_answer r q) × (s ≡ next_routes r q)
+  one_way : (r s : Routes) (q : Request) (x : List ℕ) → HasClearKeys r → Gets r q x s
+      → (x ≡ request_answer r q) × (s ≡ next_routes r q)
   one_way r s (Add n v) x keys gets = gets
   one_way r s (Drop n) x keys gets = gets
   one_way r s (Find a) x keys gets = (find_one computed one r a x keys gets.0, gets.1)
   one_way r s (Plain y) x keys gets = gets
 
-  one_turn_each : (r s : Routes) (ls xs : List (List ℕ)) → HasClearKeys r → InTurn Gets r ls xs s → xs ≡ answers_from r ls
+  one_turn_each : (r s : Routes) (ls xs : List (List ℕ)) → HasClearKeys r → InTurn Gets r ls xs s
+      → xs ≡ answers_from r ls
   one_turn_each r s [] [] keys turns = refl
   one_turn_each r s [] (x ∷ xs) keys turns = absurd turns
   one_turn_each r s (l ∷ ls) [] keys turns = absurd turns
@@ -92,7 +94,8 @@ module _ (computed : AnswerIsComputed ℕ) (one : AnswerIsOne ℕ) (laws : KeyLa
       let rest = subst (λ (t : Routes). InTurn Gets t ls xs s) first.1 turns.2 in
       ap₂ (λ y ys. y ∷ ys) first.0 (one_turn_each (next_routes r q) s ls xs (next_keys laws r q keys) rest)
 
-  unrefused : (r s : Routes) (ls xs : List (List ℕ)) → HasClearKeys r → MayAnswer r ls xs s → AllByRecursion (λ x. x ≢ out_of_memory) xs → xs ≡ answers_from r ls
+  unrefused : (r s : Routes) (ls xs : List (List ℕ)) → HasClearKeys r → MayAnswer r ls xs s
+      → AllByRecursion (λ x. x ≢ out_of_memory) xs → xs ≡ answers_from r ls
   unrefused r s [] [] keys turns others = refl
   unrefused r s [] (x ∷ xs) keys turns others = absurd turns
   unrefused r s (l ∷ ls) [] keys turns others = absurd turns
@@ -103,10 +106,16 @@ module _ (computed : AnswerIsComputed ℕ) (one : AnswerIsOne ℕ) (laws : KeyLa
       ap₂ (λ y ys. y ∷ ys) first.0 (unrefused (next_routes r q) s ls xs (next_keys laws r q keys) rest others.1)
 
   pub unrefused_computed : UnrefusedIsComputed
-  unrefused_computed input output h = h.3 ∙ ap replies (unrefused no_routes h.1 (lines input) h.0 (no_keys laws) h.2 h.4)
+  unrefused_computed input output h = h.3
+      ∙ ap replies (unrefused no_routes h.1 (lines input) h.0 (no_keys laws) h.2 h.4)
 
   pub full_computed : FullIsComputed
   full_computed input output = (
     λ h. h.3 ∙ ap replies (one_turn_each no_routes h.1 (lines input) h.0 (no_keys laws) h.2),
-    λ is. (answers_from no_routes (lines input), routes_after no_routes (lines input), compute computed no_routes (lines input), is),
+    λ is. (
+      answers_from no_routes (lines input),
+      routes_after no_routes (lines input),
+      compute computed no_routes (lines input),
+      is,
+    ),
   )

@@ -1,14 +1,6 @@
 -- What follows from how a run ended, if the contracts of the reader and the writer tell their bytes.
-use Rattle.std.proofs.Common.{◌≡◌, ℕ, ◌<◌, ◌≤◌, List, ◌++◌, length, take, sym, ap, ◌∙◌, subst, append-nil}
-use Rattle.std.proofs.lemmas.List.{append_cancel_right}
-use Rattle.std.proofs.Math.Seq.{take-append_seam}
-use Rattle.std.specs.Prelude.{Option, None, Some, Result, Err}
-use Rattle.lines.specs.declared.fault.RunFault.{RunFault}
-use Rattle.lines.specs.declared.fault.RunFault.TheVariants.{Read, Write, InputTooLong}
-use Rattle.lines.specs.Parts.{complete_part, IsBeginning}
-use Rattle.cidr.specs.Output.{IsOutput}
-use Rattle.cidr.specs.Run.{Ran, BeginsOutput}
-use Rattle.cidr.specs.Laws.Runs.{AfterOk, AfterReadFault, AfterWriteFault, AfterTooLong}
+use Rattle.cidr.proofs.Words.{◌≡◌, ℕ, ◌<◌, ◌≤◌, List, ◌++◌, length, take, sym, ap, ◌∙◌, subst, append-nil, append_cancel_right, take-append_seam, Result, Err, RunFault, Read, Write, InputTooLong, complete_part, IsBeginning, IsOutput, Ran, BeginsOutput, AfterOk, AfterReadFault, AfterWriteFault, AfterTooLong}
+use Rattle.std.specs.Prelude.{Option, None, Some}
 
 -- the run read the bytes that the reader lost
 was_read : (limit : ℕ) (read rest : List ℕ) (held holds : Option (List ℕ)) (result : Result (Unit {0}) RunFault)
@@ -18,8 +10,12 @@ was_read limit read rest held holds result ran = sym (append_cancel_right read r
 pub after_ok : AfterOk
 after_ok limit input held holds None done ran = absurd ran.reads
 after_ok limit input held holds (Some rest) done ran =
-    let all : ran.read ≡ input = sym (ran.reads ∙ ap (λ l. ran.read ++ l) ran.ends.0 ∙ append-nil ran.read) in
-    (subst (λ (l : List ℕ). length l ≤ limit) all ran.ends.1, ran.written, subst (λ (l : List ℕ). IsOutput l ran.written) all ran.ends.2, ran.writes)
+    let all : ran.read ≡ input = sym (ran.reads ∙ ap (λ l. ran.read ++ l) ran.ends.0 ∙ append-nil ran.read) in (
+      subst (λ (l : List ℕ). length l ≤ limit) all ran.ends.1,
+      ran.written,
+      subst (λ (l : List ℕ). IsOutput l ran.written) all ran.ends.2,
+      ran.writes,
+    )
 
 pub after_read_fault : AfterReadFault
 after_read_fault limit read rest held holds ran =
@@ -51,6 +47,7 @@ after_too_long limit read rest held holds ran =
       length part.0,
       part.2,
       ran.written,
-      subst (λ (l : List ℕ). IsOutput (complete_part l) ran.written) (first_bytes part.0 ran.read part.1 ∙ ap (take (length part.0)) same) part.3,
+      subst (λ (l : List ℕ). IsOutput (complete_part l) ran.written) (first_bytes part.0 ran.read part.1
+          ∙ ap (take (length part.0)) same) part.3,
       ran.writes,
     )

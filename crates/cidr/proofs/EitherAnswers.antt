@@ -1,7 +1,5 @@
 -- The answers of the commands that work on both families.
-use Rattle.std.proofs.Common.{◌≡◌, ◌↔◌, Bool, true, false, Option, None, Some, Ok, IsTrue, refl, sym, ap, ◌∙◌}
-use Rattle.std.specs.Result.{result_ok}
-use Rattle.ipnetwork_addr.specs.Computed.Reading.{answer_from}
+use Rattle.cidr.proofs.Words.{◌≡◌, ◌↔◌, Bool, true, false, Option, None, Some, Ok, IsTrue, refl, sym, ap, ◌∙◌, result_ok, answer_from}
 
 -- the value in a result
 pub value_of : {A E : Type 0} (error : E) (o : Option A) → result_ok (answer_from error o) ≡ o

@@ -1,13 +1,6 @@
 -- Lines that would reveal a misreading of the definitions. Each of these facts is computed.
-use Rattle.std.proofs.Common.{◌≡◌, [], ◌∷◌, ◌++◌, refl}
+use Rattle.cidr.proofs.Words.{◌≡◌, [], ◌∷◌, ◌++◌, refl, digits, read_answer, has_answer, ends_answer, rel_answer, complete_part, output_of, answer_of, V4, v6_of, gap_below, Add, Plain, route_number_of, one_word_request, two_words_request, request_in, request_of}
 use Rattle.std.specs.Prelude.{codes}
-use Rattle.std.specs.Fmt.{digits}
-use Rattle.cidr.specs.Commands.{read_answer, has_answer, ends_answer, rel_answer}
-use Rattle.lines.specs.Parts.{complete_part}
-use Rattle.cidr.specs.Computed.Output.{output_of, answer_of}
-use Rattle.ipnetwork.specs.declared.ip_network.IpNetwork.TheVariants.{V4}
-use Rattle.ipnetwork_addr.specs.Computed.Ipv6Text.{v6_of, gap_below}
-use Rattle.cidr.specs.Requests.{Add, Plain, route_number_of, one_word_request, two_words_request, request_in, request_of}
 
 -- a carriage return before a line feed is part of the line ending; one at the end of the input is part of the word
 pub returns : (output_of (codes "has4 10.0.0.0/8 10.255.255.255" ++ (13 ∷ 10 ∷ [])) ≡ codes "yes" ++ (10 ∷ []))

@@ -1,11 +1,5 @@
 -- Routes whose keys have no host bits, and never get any.
-use Rattle.std.proofs.Common.{ℕ}
-use Rattle.ipnetwork.specs.declared.ip_network.IpNetwork.{IpNetwork}
-use Rattle.ipnetwork.specs.declared.ip_network.IpNetwork.TheVariants.{V4, V6}
-use Rattle.ipnetwork_family.specs.Network.{block_of}
-use Rattle.ipnetwork_table.specs.Laws.{EmptyHasNoHostBits, InsertAddsNoHostBits, RemoveAddsNoHostBits}
-use Rattle.ipnetwork_table.specs.Table.{HasNoHostBits}
-use Rattle.cidr.specs.Routes.{Routes, no_routes, with_number, without}
+use Rattle.cidr.proofs.Words.{ℕ, IpNetwork, V4, V6, block_of, EmptyHasNoHostBits, InsertAddsNoHostBits, RemoveAddsNoHostBits, HasNoHostBits, Routes, no_routes, with_number, without}
 
 -- what the table promises about keys without host bits
 pub record KeyLaws : Type 0 where
@@ -20,7 +14,8 @@ module _ (keys : KeyLaws) where
   pub no_keys : HasClearKeys no_routes
   no_keys = (keys.empty 32, keys.empty 128)
 
-  pub added_key : (r : Routes) (network : IpNetwork) (number : ℕ) → HasClearKeys r → HasClearKeys (with_number r network number)
+  pub added_key : (r : Routes) (network : IpNetwork) (number : ℕ) → HasClearKeys r
+      → HasClearKeys (with_number r network number)
   added_key r (V4 network) number clear = (keys.insert 32 r.v4 network number clear.0, clear.1)
   added_key r (V6 network) number clear = (clear.0, keys.insert 128 r.v6 network number clear.1)
 

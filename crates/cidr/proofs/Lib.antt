@@ -1,3 +1,5 @@
+mod Examples
+mod LawExamples
 pub mod Answers
 pub mod AskingParts
 pub mod CommandAnswers
@@ -8,11 +10,10 @@ pub mod Computed
 pub mod Concluded
 pub mod Cuts
 pub mod EitherAnswers
-mod Examples
 pub mod Found
-pub mod LongLines
 pub mod Keys
-mod LawExamples
+pub mod Known
+pub mod LongLines
 pub mod Membership
 pub mod PlainLines
 pub mod Requests
@@ -22,3 +23,4 @@ pub mod Splits
 pub mod Succeeds
 pub mod Turns
 pub mod UnrefusedLines
+pub mod Words

@@ -1,8 +1,5 @@
 -- What a line requests if it is too long, and if it is not.
-use Rattle.std.proofs.Common.{◌≡◌, ℕ, ◌<◌, ◌≤◌, List, length, cond, ap}
-use Rattle.std.proofs.lemmas.Bool.{lt-ltb, le-ltb}
-use Rattle.cidr.specs.Requests.{too_long, request_in, request_of}
-use Rattle.cidr.specs.Words.{words}
+use Rattle.cidr.proofs.Words.{◌≡◌, ℕ, ◌<◌, ◌≤◌, List, length, cond, ap, lt-ltb, le-ltb, too_long, request_in, request_of, words}
 
 pub request_long : (l : List ℕ) → 1024 < length l → request_of l ≡ too_long
 unfolding request_of

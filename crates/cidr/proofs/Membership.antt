@@ -1,19 +1,6 @@
 -- The answers about membership and about sets, for texts that name networks and addresses.
-use Rattle.std.proofs.Common.{◌≡◌, ◌↔◌, ℕ, List, length, Bool, true, false, cond, IsTrue, codes, get_or, refl, ap, arith}
+use Rattle.cidr.proofs.Words.{◌≡◌, ◌↔◌, ℕ, List, length, Bool, true, false, cond, IsTrue, codes, get_or, refl, ap, arith, v4_of, ip_of, IpAddr, Network, Member, is_member, v4_network_of, IpMember, IpSubnet, is_ip_member, is_ip_subnet, ip_network_of, IpNetwork, has4_answer, has_answer, rel_answer, Relates}
 use Rattle.std.specs.Prelude.{Ok, Some}
-use Rattle.ipnetwork_addr.specs.Computed.Ipv4Text.{v4_of}
-use Rattle.ipnetwork_addr.specs.Computed.Either.{ip_of}
-use Rattle.ipnetwork_addr.specs.declared.ip.IpAddr.{IpAddr}
-use Rattle.ipnetwork_family.specs.Network.{Network, Member}
-use Rattle.ipnetwork_family.specs.Computed.Network.{is_member}
-use Rattle.ipnetwork_family.specs.Computed.Ipv4NetworkText.{v4_network_of}
-use Rattle.ipnetwork.specs.IpNetworks.{IpMember, IpSubnet}
-use Rattle.ipnetwork.specs.Computed.IpNetworks.{is_ip_member, is_ip_subnet}
-use Rattle.ipnetwork.specs.Computed.IpNetworkText.{ip_network_of}
-use Rattle.ipnetwork.specs.declared.ip_network.IpNetwork.{IpNetwork}
-use Rattle.cidr.specs.Commands.{has4_answer}
-use Rattle.cidr.specs.Commands.{has_answer, rel_answer}
-use Rattle.cidr.specs.Laws.Sets.{Relates}
 
 no_truth : false ≡ true → ⊥
 no_truth e = cc
@@ -21,19 +8,26 @@ no_truth e = cc
 -- the answer says whether the test succeeded, and therefore whether the fact holds
 told_by : (t : Bool) (P : Type 0) → (IsTrue t ↔ P)
     → ((cond t (codes "yes") (codes "no") ≡ codes "yes") ↔ P) × ((cond t (codes "yes") (codes "no") ≡ codes "no") ↔ ¬ P)
-told_by true P h = ((λ e. h.0 refl, λ p. refl), (λ e. absurd (omega (arith, ap length e)), λ np. absurd (np (h.0 refl))))
-told_by false P h = ((λ e. absurd (omega (arith, ap length e)), λ p. absurd (no_truth (h.1 p))), (λ e p. no_truth (h.1 p), λ np. refl))
+told_by true P h =
+    ((λ e. h.0 refl, λ p. refl), (λ e. absurd (omega (arith, ap length e)), λ np. absurd (np (h.0 refl))))
+told_by false P h =
+    ((λ e. absurd (omega (arith, ap length e)), λ p. absurd (no_truth (h.1 p))), (λ e p. no_truth (h.1 p), λ np. refl))
 
 -- `has4`
-pub has_members : (text word : List ℕ) (n : Network) (a : ℕ) → (IsTrue (is_member 32 n a) ↔ Member 32 n a) → Ok n ≡ v4_network_of text → v4_of word ≡ Some a
-    → ((has4_answer text word ≡ codes "yes") ↔ Member 32 n a) × ((has4_answer text word ≡ codes "no") ↔ ¬ (Member 32 n a))
-has_members text word n a test network address = rw (← network, address) (told_by (is_member 32 n a) (Member 32 n a) test)
+pub has_members : (text word : List ℕ) (n : Network) (a : ℕ) → (IsTrue (is_member 32 n a) ↔ Member 32 n a)
+    → Ok n ≡ v4_network_of text → v4_of word ≡ Some a
+    → ((has4_answer text word ≡ codes "yes") ↔ Member 32 n a)
+    × ((has4_answer text word ≡ codes "no") ↔ ¬ (Member 32 n a))
+has_members text word n a test network address =
+    rw (← network, address) (told_by (is_member 32 n a) (Member 32 n a) test)
 
 -- `has`
-pub has_ip_members : (text word : List ℕ) (n : IpNetwork) (a : IpAddr) → (IsTrue (is_ip_member n a) ↔ IpMember n a) → Ok n ≡ ip_network_of text → ip_of word ≡ Some a
+pub has_ip_members : (text word : List ℕ) (n : IpNetwork) (a : IpAddr) → (IsTrue (is_ip_member n a) ↔ IpMember n a)
+    → Ok n ≡ ip_network_of text → ip_of word ≡ Some a
     → ((has_answer text word ≡ codes "yes") ↔ IpMember n a) × ((has_answer text word ≡ codes "no") ↔ ¬ (IpMember n a))
 unfolding has_answer
-has_ip_members text word n a test network address = rw (← network, address) (told_by (is_ip_member n a) (IpMember n a) test)
+has_ip_members text word n a test network address =
+    rw (← network, address) (told_by (is_ip_member n a) (IpMember n a) test)
 
 abbrev first : List ℕ → ℕ
 first text = get_or text 0 0
@@ -66,7 +60,9 @@ relates false false a b h k = record {
   apart = (λ e. (λ q. no_truth (h.1 q), λ q. no_truth (k.1 q)), λ p. refl);
 }
 
-pub relates_sets : (text other : List ℕ) (a b : IpNetwork) → (IsTrue (is_ip_subnet a b) ↔ IpSubnet a b) → (IsTrue (is_ip_subnet b a) ↔ IpSubnet b a)
+pub relates_sets : (text other : List ℕ) (a b : IpNetwork) → (IsTrue (is_ip_subnet a b) ↔ IpSubnet a b)
+    → (IsTrue (is_ip_subnet b a) ↔ IpSubnet b a)
     → Ok a ≡ ip_network_of text → Ok b ≡ ip_network_of other → Relates (rel_answer text other) a b
 unfolding rel_answer
-relates_sets text other a b h k first_is second_is = rw (← first_is, ← second_is) (relates (is_ip_subnet a b) (is_ip_subnet b a) a b h k)
+relates_sets text other a b h k first_is second_is =
+    rw (← first_is, ← second_is) (relates (is_ip_subnet a b) (is_ip_subnet b a) a b h k)

@@ -1,25 +1,19 @@
 -- What requests get, depending on the words of the line.
-use Rattle.std.proofs.Common.{◌≡◌, ◌↔◌, ℕ, ◌≤◌, cond, List, Option, None, Some, inl, inr, refl, sym, ap, subst, ◌∙◌}
-use Rattle.std.proofs.lemmas.Bool.{le-leb}
-use Rattle.std.proofs.lemmas.Bool.Decides.{leb_tells}
-use Rattle.ipnetwork_family.specs.PrefixNumber.{IsPrefixNumber, IsNoPrefixNumber}
-use Rattle.ipnetwork_family.specs.Computed.PrefixNumber.{prefix_number_of}
-use Rattle.lines.specs.Buffers.{Filled}
-use Rattle.cidr.specs.Output.{MayGet}
-use Rattle.cidr.specs.Private.Replies.{Adds, RepliesTo}
-use Rattle.cidr.specs.Requests.{Request, Plain, route_number_of, within_32_bits}
-use Rattle.cidr.specs.Routes.{Routes}
+use Rattle.cidr.proofs.Words.{◌≡◌, ◌↔◌, ℕ, ◌≤◌, cond, List, Option, None, Some, inl, inr, refl, sym, ap, subst, ◌∙◌, le-leb, leb_tells, IsPrefixNumber, IsNoPrefixNumber, prefix_number_of, Filled, MayGet, Adds, RepliesTo, Request, Plain, route_number_of, within_32_bits, Routes}
 
 -- ---- replies
 
-pub plain_reply : (r : Routes) (old new : Filled) (text : List ℕ) → Adds old new text → RepliesTo r (Plain text) old new r
+pub plain_reply : (r : Routes) (old new : Filled) (text : List ℕ) → Adds old new text
+    → RepliesTo r (Plain text) old new r
 plain_reply r old new text adds = (text, inl (refl, refl), adds)
 
-pub reply_with : (r s : Routes) (q : Request) (old new : Filled) (answer : List ℕ) → MayGet r q answer s → Adds old new answer → RepliesTo r q old new s
+pub reply_with : (r s : Routes) (q : Request) (old new : Filled) (answer : List ℕ) → MayGet r q answer s
+    → Adds old new answer → RepliesTo r q old new s
 reply_with r s q old new answer gets adds = (answer, gets, adds)
 
 -- a reply to a request is a reply to an equal request
-pub replies_as : (r s : Routes) (p q : Request) (old new : Filled) → p ≡ q → RepliesTo r q old new s → RepliesTo r p old new s
+pub replies_as : (r s : Routes) (p q : Request) (old new : Filled) → p ≡ q → RepliesTo r q old new s
+    → RepliesTo r p old new s
 replies_as r s p q old new same replies = subst (λ (x : Request). RepliesTo r x old new s) (sym same) replies
 
 -- ---- numbers
@@ -36,10 +30,12 @@ not_within (Some value) h = elim (leb_tells value 4294967295) [
 ]
 
 module _ (computed : NumberIsComputed) where
-  pub number_is : (text : List ℕ) (value : ℕ) → IsPrefixNumber text value → value ≤ 4294967295 → route_number_of text ≡ Some value
+  pub number_is : (text : List ℕ) (value : ℕ) → IsPrefixNumber text value → value ≤ 4294967295
+      → route_number_of text ≡ Some value
   unfolding route_number_of
   number_is text value names fits =
-      ap within_32_bits ((computed text value).0 names) ∙ ap (λ b. cond b (Some value) None) (le-leb value 4294967295 fits)
+      ap within_32_bits ((computed text value).0 names)
+      ∙ ap (λ b. cond b (Some value) None) (le-leb value 4294967295 fits)
 
   pub number_is_none : (text : List ℕ) → IsNoPrefixNumber text 4294967295 → route_number_of text ≡ None
   unfolding route_number_of

@@ -1,10 +1,5 @@
 -- An input that is cut after a line feed.
-use Rattle.std.proofs.Common.{◌≡◌, ℕ, List, [], ◌∷◌, ◌++◌, sym, ap, ap₂, ◌∙◌, subst, refl, append-nil, append_assoc}
-use Rattle.std.specs.Str.Lines.{lines}
-use Rattle.cidr.specs.Output.{MayAnswer, IsOutputFrom, replies}
-use Rattle.cidr.specs.Laws.Outputs.{EndsALine, IsOutputInParts, SplitsAtLineEnds, PlainPartsRunAlone}
-use Rattle.cidr.specs.Routes.{Routes, no_routes}
-use Rattle.lines.proofs.Lines.{lines_from, pending_from, last_line, lines-append, pending-append, lines_split}
+use Rattle.cidr.proofs.Words.{◌≡◌, ℕ, List, [], ◌∷◌, ◌++◌, sym, ap, ap₂, ◌∙◌, subst, refl, append-nil, append_assoc, lines, MayAnswer, IsOutputFrom, replies, EndsALine, IsOutputInParts, SplitsAtLineEnds, PlainPartsRunAlone, Routes, no_routes, lines_from, pending_from, last_line, lines-append, pending-append, lines_split}
 use Rattle.cidr.proofs.PlainLines.{plain_turns}
 use Rattle.cidr.proofs.Turns.{replies-append, answers-append}
 
@@ -14,7 +9,8 @@ feed_alone p = refl
 
 -- nothing is pending after a line feed
 nothing_pending : (front : List ℕ) → EndsALine front → pending_from [] front ≡ []
-nothing_pending front ends = ap (pending_from []) ends.1 ∙ pending-append [] ends.0 (10 ∷ []) ∙ feed_alone (pending_from [] ends.0)
+nothing_pending front ends = ap (pending_from []) ends.1 ∙ pending-append [] ends.0 (10 ∷ [])
+    ∙ feed_alone (pending_from [] ends.0)
 
 no_last_line : (p : List ℕ) → p ≡ [] → last_line p ≡ []
 unfolding last_line
@@ -22,7 +18,8 @@ no_last_line p none = ap last_line none
 
 front_lines : (front : List ℕ) → EndsALine front → lines front ≡ lines_from [] front
 front_lines front ends =
-    lines_split [] front tt ∙ ap (λ ls. lines_from [] front ++ ls) (no_last_line _ (nothing_pending front ends)) ∙ append-nil (lines_from [] front)
+    lines_split [] front tt ∙ ap (λ ls. lines_from [] front ++ ls) (no_last_line _ (nothing_pending front ends))
+    ∙ append-nil (lines_from [] front)
 
 -- the lines of both parts are the lines of the first followed by the lines of the second
 pub lines_of_both : (front back : List ℕ) → EndsALine front → lines (front ++ back) ≡ lines front ++ lines back
@@ -37,7 +34,8 @@ lines_of_both front back ends =
 
 -- answers to the lines of both parts, cut between the two
 abbrev InTwo : Routes → List (List ℕ) → List (List ℕ) → List (List ℕ) → Routes → Type 0
-InTwo r ls ms xs t = (s : Routes) × (ys : List (List ℕ)) × (zs : List (List ℕ)) × MayAnswer r ls ys s × MayAnswer s ms zs t × (xs ≡ ys ++ zs)
+InTwo r ls ms xs t = (s : Routes) × (ys : List (List ℕ)) × (zs : List (List ℕ)) × MayAnswer r ls ys s
+    × MayAnswer s ms zs t × (xs ≡ ys ++ zs)
 
 cut_turns : (r t : Routes) (ls ms xs : List (List ℕ)) → MayAnswer r (ls ++ ms) xs t → InTwo r ls ms xs t
 cut_turns r t [] ms xs turns = (r, [], xs, refl, turns, refl)
@@ -49,14 +47,23 @@ cut_turns r t (l ∷ ls) ms (x ∷ xs) turns =
 pub splits : SplitsAtLineEnds
 splits front back output before after ends = (
   λ h.
-      let two = cut_turns before after (lines front) (lines back) h.0 (subst (λ (ls : List (List ℕ)). MayAnswer before ls h.0 after) (lines_of_both front back ends) h.1) in
-      (two.0, replies two.1, replies two.2, (two.1, two.3, refl), (two.2, two.4, refl), h.2 ∙ ap replies two.5 ∙ replies-append two.1 two.2),
+      let two = cut_turns before after (lines front) (lines back) h.0
+      (subst (λ (ls : List (List ℕ)). MayAnswer before ls h.0 after) (lines_of_both front back ends) h.1) in (
+        two.0,
+        replies two.1,
+        replies two.2,
+        (two.1, two.3, refl),
+        (two.2, two.4, refl),
+        h.2 ∙ ap replies two.5
+            ∙ replies-append two.1 two.2,
+      ),
   λ h.
       let one = h.3 in
       let two = h.4 in
       let turns = answers-append before h.0 after (lines front) (lines back) one.0 two.0 one.1 two.1 in (
         one.0 ++ two.0,
-        subst (λ (ls : List (List ℕ)). MayAnswer before ls (one.0 ++ two.0) after) (sym (lines_of_both front back ends)) turns,
+        subst (λ (ls : List (List ℕ)). MayAnswer before ls (one.0 ++ two.0) after)
+            (sym (lines_of_both front back ends)) turns,
         h.5 ∙ ap₂ (λ a b. a ++ b) one.2 two.2 ∙ sym (replies-append one.0 two.0),
       ),
 )
@@ -65,8 +72,13 @@ pub parts_alone : PlainPartsRunAlone
 parts_alone front back output ends plain = (
   λ h.
       let parts = (splits front back output no_routes h.0 ends).0 h.1 in
-      let same = (plain_turns no_routes parts.0 (lines front) parts.3.0 plain parts.3.1).1 in
-      (parts.1, parts.2, (parts.0, parts.3), (h.0, subst (λ (r : Routes). IsOutputFrom r back parts.2 h.0) same parts.4), parts.5),
+      let same = (plain_turns no_routes parts.0 (lines front) parts.3.0 plain parts.3.1).1 in (
+        parts.1,
+        parts.2,
+        (parts.0, parts.3),
+        (h.0, subst (λ (r : Routes). IsOutputFrom r back parts.2 h.0) same parts.4),
+        parts.5,
+      ),
   λ h.
       let one = h.2 in
       let two = h.3 in

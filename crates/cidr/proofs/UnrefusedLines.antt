@@ -1,9 +1,5 @@
 -- An answer `out of memory` is a line of the output.
-use Rattle.std.proofs.Common.{◌≡◌, ◌≢◌, ℕ, List, [], ◌∷◌, ◌++◌, refl, ap, ◌∙◌, subst}
-use Rattle.std.specs.List.{AllByRecursion}
-use Rattle.std.specs.Str.Lines.{lines}
-use Rattle.cidr.specs.Output.{out_of_memory, reply, replies}
-use Rattle.cidr.specs.Laws.Outputs.{UnrefusedIsComputed, UnrefusedLinesAreComputed}
+use Rattle.cidr.proofs.Words.{◌≡◌, ◌≢◌, ℕ, List, [], ◌∷◌, ◌++◌, refl, ap, ◌∙◌, subst, AllByRecursion, lines, out_of_memory, reply, replies, UnrefusedIsComputed, UnrefusedLinesAreComputed}
 use Rattle.cidr.proofs.Splits.{lines_of_both}
 
 abbrev AreOther : List (List ℕ) → Type 0
@@ -19,14 +15,18 @@ one_line = refl
 
 -- the first line of a reply `out of memory` is `out of memory`
 no_first : (answer : List ℕ) (more : List (List ℕ)) → AreOther (lines (reply answer) ++ more) → answer ≢ out_of_memory
-no_first answer more all same = (subst (λ (ls : List (List ℕ)). AreOther (ls ++ more)) (ap (λ a. lines (reply a)) same ∙ one_line) all).0 refl
+no_first answer more all same =
+    (subst (λ (ls : List (List ℕ)). AreOther (ls ++ more)) (ap (λ a. lines (reply a)) same ∙ one_line) all).0 refl
 
 answers_other : (answers : List (List ℕ)) → AreOther (lines (replies answers)) → AreOther answers
 answers_other [] all = tt
 answers_other (answer ∷ answers) all =
-    let both = subst AreOther (lines_of_both (reply answer) (replies answers) (answer, refl)) all in
-    (no_first answer (lines (replies answers)) both, answers_other answers (those_other (lines (reply answer)) (lines (replies answers)) both))
+    let both = subst AreOther (lines_of_both (reply answer) (replies answers) (answer, refl)) all in (
+      no_first answer (lines (replies answers)) both,
+      answers_other answers (those_other (lines (reply answer)) (lines (replies answers)) both),
+    )
 
 pub unrefused_lines : UnrefusedIsComputed → UnrefusedLinesAreComputed
 unrefused_lines computed input output h all =
-    computed input output (h.1.0, h.0, h.1.1, h.1.2, answers_other h.1.0 (subst (λ (o : List ℕ). AreOther (lines o)) h.1.2 all))
+    computed input output
+    (h.1.0, h.0, h.1.1, h.1.2, answers_other h.1.0 (subst (λ (o : List ℕ). AreOther (lines o)) h.1.2 all))

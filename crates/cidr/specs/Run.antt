@@ -3,7 +3,7 @@ use Rattle.std.specs.Prelude.{◌≡◌, ℕ, ◌<◌, ◌≤◌, ◌||◌, IsTr
 use Rattle.std.specs.Prelude.{Err, OnOk, IsOk}
 use Rattle.std.specs.Io.KnownBytes.{Appends, Consumes, IsAtEnd}
 use Rattle.lines.specs.Faults.{ended_by_read, ended_by_write}
-use Rattle.lines.specs.Parts.{complete_part, IsBeginning}
+use Rattle.lines.specs.Beginnings.{complete_part, IsBeginning}
 use Rattle.lines.specs.Watched.{device_of, has_failed}
 use Rattle.lines.specs.declared.fault.RunFault.{RunFault}
 use Rattle.lines.specs.declared.fault.RunFault.TheVariants.{Read, Write, InputTooLong}

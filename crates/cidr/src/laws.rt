@@ -5,6 +5,7 @@ mod outputs;
 mod routes;
 mod runs;
 mod sets;
+mod uses;
 
 pub use commands::{lines_about_one_network, lines_about_routes, lines_about_sets, other_lines};
 pub use outputs::{output_without_refusals, plain_lines_ask_nothing, split_at_line_ends};

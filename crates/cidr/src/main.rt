@@ -6,13 +6,13 @@ ghost use Rattle.std.specs.Process.{exit_status};
 
 mod answering;
 mod commands;
+mod cutting;
 mod dispatch;
 mod laws;
 mod names;
 mod replies;
 mod route_tables;
 mod run;
-mod words;
 
 use crate::run::run;
 use lines::fault::RunFault;

@@ -1,48 +1,38 @@
 -- Lines that are copied into the output before it is known whether they are selected.
-use Rattle.std.proofs.Common.{◌≡◌, ◌↔◌, ℕ, ◌≤◌, ◌∙◌, Bool, true, false, cond, not, List, [], ◌∷◌, length, refl, sym, ap, subst, arith, inl, true≢false}
-use Rattle.std.specs.Prelude.{Option, None, Some, IfSome, IsTrue, option_map}
-use Rattle.std.proofs.Math.Bool.{beq}
-use Rattle.std.specs.Option.{option_to_list}
-use Rattle.ipnetwork_addr.specs.declared.ip.IpAddr.{IpAddr}
-use Rattle.line_addresses.specs.Addresses.{Spelled, spelled}
-use Rattle.line_addresses.specs.Areas.{part_of, picked_in, each_in, spelled_in}
-use Rattle.line_addresses.specs.declared.area.Area.{Area}
-use Rattle.line_addresses.specs.declared.area.Pick.{Pick}
+use Rattle.cidr_filter.proofs.Words.{◌≡◌, ◌↔◌, ℕ, ◌≤◌, ◌∙◌, Bool, true, false, cond, not, List, [], ◌∷◌, length, refl, sym, ap, subst, arith, inl, true≢false, Option, None, Some, IfSome, IsTrue, option_map, beq, option_to_list, IpAddr, Spelled, spelled, part_of, picked_in, each_in, spelled_in, Area, Pick, found_in, IsVerdict, IsVerdictOfAddresses, FirstListed, TellsBlock, addresses_in, is_of_family, of_family, HasAddress, IsIn, asked, reads_networks, HasOnly, IsSelectedByAddress, Filter, Matcher, Addresses, Sets}
 use Rattle.line_addresses.specs.declared.area.Pick.TheVariants as picks
-use Rattle.log_programs.specs.Finding.{found_in}
-use Rattle.cidr_filter.specs.Filters.{IsVerdict, IsVerdictOfAddresses, FirstListed, TellsBlock, addresses_in, is_of_family, of_family}
-use Rattle.cidr_filter.specs.Matcher.{HasAddress, IsIn, asked, reads_networks}
-use Rattle.cidr_filter.specs.Private.Copying.{HasOnly, IsSelectedByAddress}
-use Rattle.cidr_filter.specs.declared.filter.Filter.{Filter}
 use Rattle.cidr_filter.specs.declared.filter.Verdict.TheVariants as verdicts
-use Rattle.cidr_filter.specs.declared.matcher.Matcher.{Matcher}
-use Rattle.cidr_filter.specs.declared.matcher.Matcher.TheVariants.{Addresses}
-use Rattle.cidr_filter.specs.declared.matcher.Sets.{Sets}
 
 -- ---- the address that is looked for
 
 abbrev IsOnly : List Spelled → IpAddr → Type 0
 IsOnly found address = (text : List ℕ) × (found ≡ record { text = text; address = address } ∷ [])
 
-one_found : (one : Option Spelled) (found : Option IpAddr) → found ≡ option_map (λ (s : Spelled). s.address) one → IfSome found (IsOnly (option_to_list one))
+one_found : (one : Option Spelled) (found : Option IpAddr) → found ≡ option_map (λ (s : Spelled). s.address) one
+    → IfSome found (IsOnly (option_to_list one))
 one_found None found e = subst (λ (o : Option IpAddr). IfSome o (IsOnly [])) (sym e) tt
 one_found (Some one) found e = subst (λ (o : Option IpAddr). IfSome o (IsOnly (one ∷ []))) (sym e) (one.text, refl)
 
-whole_found : (part : Option (List ℕ)) (found : Option IpAddr) → found ≡ option_map (λ (s : Spelled). s.address) (picked_in false picks.Whole part) → IfSome found (IsOnly (each_in false picks.Whole part))
+whole_found : (part : Option (List ℕ)) (found : Option IpAddr) → found ≡ option_map (λ (s : Spelled). s.address)
+    (picked_in false picks.Whole part) → IfSome found (IsOnly (each_in false picks.Whole part))
 whole_found None found e = one_found None found e
 whole_found (Some text) found e = one_found (spelled text) found e
 
-pub only_found : (area : Area) (line : List ℕ) → area.pick ≡ picks.Whole → (found : Option IpAddr) → found ≡ found_in area line → IfSome found (HasOnly area line)
+pub only_found : (area : Area) (line : List ℕ) → area.pick ≡ picks.Whole → (found : Option IpAddr)
+    → found ≡ found_in area line → IfSome found (HasOnly area line)
 only_found area line is found e =
     let part = part_of area.part line in
     subst (λ (p : Pick). IfSome found (IsOnly (each_in false p part))) (sym is)
-    (whole_found part found (e ∙ ap (λ (p : Pick). option_map (λ (s : Spelled). s.address) (picked_in false p part)) is))
+    (whole_found part found (e ∙ ap (λ (p : Pick). option_map (λ (s : Spelled). s.address) (picked_in false p part))
+    is))
 
 -- the only address, if it counts
-pub only_counted : (area : Area) (line : List ℕ) → area.pick ≡ picks.Whole → (found : Option IpAddr) → found ≡ found_in area line → (Counts : IpAddr → Type 0) (result : Option IpAddr)
+pub only_counted : (area : Area) (line : List ℕ) → area.pick ≡ picks.Whole → (found : Option IpAddr)
+    → found ≡ found_in area line → (Counts : IpAddr → Type 0) (result : Option IpAddr)
     → IfSome result (λ one. (found ≡ Some one) × Counts one) → IfSome result (λ one. HasOnly area line one × Counts one)
 only_counted area line is found e Counts None h = tt
-only_counted area line is found e Counts (Some one) h = (subst (λ (o : Option IpAddr). IfSome o (HasOnly area line)) h.0 (only_found area line is found e), h.1)
+only_counted area line is found e Counts (Some one) h =
+    (subst (λ (o : Option IpAddr). IfSome o (HasOnly area line)) h.0 (only_found area line is found e), h.1)
 
 -- ---- whether a line is selected
 
@@ -54,19 +44,24 @@ unlike_false : (inverts : Bool) → not (beq false inverts) ≡ inverts
 unlike_false true = refl
 unlike_false false = refl
 
-module _ (filter : Filter) (line : List ℕ) (sets : Sets) (address : IpAddr) (short : length line ≤ 1048576) (is : filter.listed ≡ Addresses sets) (only : HasOnly filter.area line address)
+module _ (filter : Filter) (line : List ℕ) (sets : Sets) (address : IpAddr) (short : length line ≤ 1048576)
+    (is : filter.listed ≡ Addresses sets) (only : HasOnly filter.area line address)
     (counts : is_of_family filter.family filter.mapped address ≡ true) where
   abbrev one : Spelled
   one = record { text = only.0; address = address }
 
   alone : addresses_in filter line ≡ one ∷ []
-  alone = ap (of_family filter.family filter.mapped) (ap (λ (l : Matcher). spelled_in (reads_networks l) filter.area line) is ∙ only.1) ∙ ap (λ b. cond b (one ∷ []) []) counts
+  alone = ap (of_family filter.family filter.mapped) (ap (λ (l : Matcher). spelled_in (reads_networks l) filter.area
+      line) is ∙ only.1) ∙ ap (λ b. cond b (one ∷ []) []) counts
 
   inside : HasAddress sets (asked filter.mapped address) → IsVerdict filter line (verdicts.Inside None)
   inside has = (
     short,
     subst (λ (l : List Spelled). FirstListed filter l None) (sym alone)
-        (inl (subst (λ (l : Matcher). IsIn l filter.mapped one) (sym is) has, subst (λ (l : Matcher). TellsBlock l (asked filter.mapped address) None) (sym is) refl)),
+        (inl (
+          subst (λ (l : Matcher). IsIn l filter.mapped one) (sym is) has,
+          subst (λ (l : Matcher). TellsBlock l (asked filter.mapped address) None) (sym is) refl,
+        )),
   )
 
   outside : ¬ (HasAddress sets (asked filter.mapped address)) → IsVerdict filter line verdicts.Outside
@@ -76,6 +71,8 @@ module _ (filter : Filter) (line : List ℕ) (sets : Sets) (address : IpAddr) (s
         (omega arith, ((λ h. none (subst (λ (l : Matcher). IsIn l filter.mapped one) is h)), tt)),
   )
 
-  pub by_address : (is_in : Bool) → IsTrue is_in ↔ HasAddress sets (asked filter.mapped address) → IsSelectedByAddress filter line (not (beq is_in filter.inverts))
-  by_address true h = (verdicts.Inside None, inside (h.0 refl), refl, refl, unlike_true filter.inverts)
-  by_address false h = (verdicts.Outside, outside (λ a. true≢false (sym (h.1 a))), refl, refl, unlike_false filter.inverts)
+  pub by_address : (is_in : Bool) → IsTrue is_in ↔ HasAddress sets (asked filter.mapped address)
+      → IsSelectedByAddress filter line (not (beq is_in filter.inverts))
+  by_address true h = (verdicts.Inside None, inside (h.0 refl), refl, (λ seen. refl), unlike_true filter.inverts)
+  by_address false h =
+      (verdicts.Outside, outside (λ a. true≢false (sym (h.1 a))), refl, (λ seen. refl), unlike_false filter.inverts)

@@ -1,44 +1,13 @@
 -- Values at which a misreading of the definitions would show.
-use Rattle.std.proofs.Common.{◌≡◌, ℕ, length, List, [], ◌∷◌, ◌++◌, Bool, true, false, inl, inr, refl, ap, append-nil, arith}
-use Rattle.std.specs.Prelude.{codes, map, bytes_eq, String, Some, None}
-use Rattle.std.specs.Fmt.{digits}
-use Rattle.std.specs.String.{string_bytes}
-use Rattle.ipnetwork_addr.specs.Computed.Ipv6Text.{v6_of, gap_below}
-use Rattle.ipnetwork_addr.specs.declared.ip.IpAddr.{IpAddr}
+use Rattle.cidr_filter.proofs.Words.{◌≡◌, ℕ, ◌-◌, length, List, [], ◌∷◌, ◌++◌, Bool, true, false, inl, inr, refl, ap, append-nil, arith, codes, map, bytes_eq, Some, None, digits, v6_of, gap_below, IpAddr, Spelled, address_of, before_port, address_in, IpMember, V4, V6, field_of, named_network, network_in, IsListed, IsVerdict, addresses_in, is_selected, is_refused, mark_of, shown, shown_of, LogLine, log_lines, ended_lines, content, printed, ended, unended, IsStored, IsLongestBlock, asked, covers_named, label_of, WithoutAddress, Filter, OutputMode, Area, whole, anywhere, after, Verdict, Addresses, Networks, Blocks, Sets, Tables}
 use Rattle.ipnetwork_addr.specs.declared.ip.IpAddr.TheVariants as addresses
-use Rattle.line_addresses.specs.Addresses.{Spelled, address_of, before_port, address_in}
-use Rattle.ipnetwork.specs.IpNetworks.{IpMember}
-use Rattle.ipnetwork.specs.declared.ip_network.IpNetwork.TheVariants.{V4, V6}
-use Rattle.lists.specs.declared.entry.EntryFault.TheVariants.{Prefix}
-use Rattle.lists.specs.declared.fault.LineFault.TheVariants.{Entry}
-use Rattle.line_addresses.specs.Fields.{field_of}
-use Rattle.line_addresses.specs.Networks.{named_network, network_in}
-use Rattle.cidr_filter.specs.Filters.{IsListed, IsVerdict, addresses_in, is_selected, is_refused, mark_of, shown_of, output_of}
-use Rattle.program.specs.LogLines.{log_lines, ended_lines, content, printed, ended, unended}
-use Rattle.cidr_filter.specs.Matcher.{IsStored, IsLongestBlock, asked, covers_named}
-use Rattle.cidr_filter.specs.Logs.{label_of}
-use Rattle.cidr_filter.specs.Addressed.{lacking_by}
-use Rattle.log_programs.specs.Closed.{closed_text}
-use Rattle.cidr_filter.specs.Runs.{status_by}
-use Rattle.options.specs.declared.items.Item.TheVariants as says
-use Rattle.lists.specs.declared.refusals.Refusal.{Refusal}
-use Rattle.program.specs.Reported.{refusals_text}
-use Rattle.cidr_filter.specs.Reported.{in_option}
-use Rattle.log_programs.specs.declared.without_address.WithoutAddress.{WithoutAddress}
+use Rattle.log_programs.specs.LogStats.{nothing}
 use Rattle.log_programs.specs.declared.without_address.WithoutAddress.TheVariants as without
 use Rattle.cidr_filter.specs.declared.filter.Family.TheVariants as families
-use Rattle.cidr_filter.specs.declared.filter.Filter.{Filter}
-use Rattle.cidr_filter.specs.declared.filter.OutputMode.{OutputMode}
 use Rattle.cidr_filter.specs.declared.filter.OutputMode.TheVariants as shows
-use Rattle.line_addresses.specs.declared.area.Area.{Area}
 use Rattle.line_addresses.specs.declared.area.Part.TheVariants as parts
-use Rattle.line_addresses.proofs.Areas.{whole, anywhere, after}
-use Rattle.cidr_filter.specs.declared.filter.Verdict.{Verdict}
+use Rattle.line_addresses.specs.declared.place.Place.TheVariants as places
 use Rattle.cidr_filter.specs.declared.filter.Verdict.TheVariants as verdicts
-use Rattle.cidr_filter.specs.declared.matcher.Matcher.TheVariants.{Addresses, Networks, Blocks}
-use Rattle.cidr_filter.specs.declared.matcher.Sets.{Sets}
-use Rattle.cidr_filter.specs.declared.matcher.Tables.{Tables}
-use Rattle.lists.specs.declared.opening.OpenFault.TheVariants as causes
 
 -- ---- fields, cut at each comma (44) or blank (32)
 
@@ -83,7 +52,21 @@ printed_with_an_end = refl
 -- ---- the verdict on a line
 
 abbrev pub by : Bool → WithoutAddress → Filter
-by inverts bad = record { listed = Addresses (record { v4 = []; v6 = [] }); area = whole (parts.Field 1 32); mapped = false; family = families.Either; inverts = inverts; bad = bad; most = None; shows = shows.Lines; named = false; numbered = false; name = [] }
+by inverts bad = record {
+  listed = Addresses (record { v4 = []; v6 = [] });
+  area = whole (parts.Field (places.Number 1) 32);
+  mapped = false;
+  family =
+      families.Either;
+  inverts = inverts;
+  bad = bad;
+  most = None;
+  shows = shows.Lines;
+  named = false;
+  numbered =
+      false;
+  name = [];
+}
 
 -- a filter that only counts
 abbrev pub counting : WithoutAddress → Filter
@@ -101,11 +84,18 @@ ten = record { text = codes "10.0.0.1"; address = addresses.V4 0x0a000001 }
 abbrev pub asked_in : Filter → List ℕ → List IpAddr
 asked_in filter line = map (λ found. asked filter.mapped found.address) (addresses_in filter line)
 
-pub line_inside : IsListed (by false without.Drop) ten → IsVerdict (by false without.Drop) (codes "10.0.0.1 x") (verdicts.Inside None)
+-- what is written for the line with this number
+abbrev pub output_of : Filter → ℕ → Verdict → LogLine → List ℕ
+output_of filter number verdict line = shown filter
+    (record { selected = 0; seen = record nothing { lines = number - 1 } }) verdict (content line) (printed line)
+
+pub line_inside : IsListed (by false without.Drop) ten
+    → IsVerdict (by false without.Drop) (codes "10.0.0.1 x") (verdicts.Inside None)
 unfolding address_of digits v6_of gap_below
 line_inside listed = (omega arith, inl (listed, refl))
 
-pub line_outside : ¬ (IsListed (by true without.Drop) ten) → IsVerdict (by true without.Drop) (codes "10.0.0.1 x") verdicts.Outside
+pub line_outside : ¬ (IsListed (by true without.Drop) ten)
+    → IsVerdict (by true without.Drop) (codes "10.0.0.1 x") verdicts.Outside
 unfolding address_of digits v6_of gap_below
 line_outside not = (omega arith, (omega arith, (not, tt)))
 
@@ -114,16 +104,19 @@ unfolding address_of digits v6_of gap_below
 address_in_another_field = (omega arith, refl)
 
 -- the second word, after two blanks
-pub address_in_a_word : asked_in (looking (whole (parts.Word 2)) false) (codes "a  10.0.0.1 b") ≡ addresses.V4 0x0a000001 ∷ []
+pub address_in_a_word : asked_in (looking (whole (parts.Word (places.Number 2))) false) (codes "a  10.0.0.1 b") ≡ addresses.V4
+    0x0a000001 ∷ []
 unfolding address_of digits v6_of gap_below
 address_in_a_word = refl
 
-pub addresses_anywhere : asked_in (looking anywhere false) (codes "a=10.0.0.1:80 [10.0.0.2]") ≡ addresses.V4 0x0a000001 ∷ addresses.V4 0x0a000002 ∷ []
+pub addresses_anywhere : asked_in (looking anywhere false) (codes "a=10.0.0.1:80 [10.0.0.2]") ≡ addresses.V4 0x0a000001
+    ∷ addresses.V4 0x0a000002 ∷ []
 unfolding address_in before_port address_of digits v6_of gap_below
 addresses_anywhere = refl
 
 -- only the first address after the first occurrence of a text
-pub address_after : asked_in (looking (after (codes "SRC=")) false) (codes "DST=10.0.0.9 SRC=10.0.0.1 SRC=10.0.0.2") ≡ addresses.V4 0x0a000001 ∷ []
+pub address_after : asked_in (looking (after (codes "SRC=")) false) (codes "DST=10.0.0.9 SRC=10.0.0.1 SRC=10.0.0.2")
+    ≡ addresses.V4 0x0a000001 ∷ []
 unfolding address_in before_port address_of digits v6_of gap_below
 address_after = refl
 
@@ -131,21 +124,26 @@ pub no_text : asked_in (looking (after (codes "SRC=")) false) (codes "DST=10.0.0
 no_text = refl
 
 -- an IPv4-mapped address counts as its IPv4 address only with `--mapped`
-pub mapped_address : asked_in (looking (whole (parts.Field 1 32)) true) (codes "::ffff:10.0.0.1 x") ≡ addresses.V4 0x0a000001 ∷ []
+pub mapped_address : asked_in (looking (whole (parts.Field (places.Number 1) 32)) true) (codes "::ffff:10.0.0.1 x") ≡ addresses.V4
+    0x0a000001 ∷ []
 unfolding address_of digits v6_of gap_below
 mapped_address = refl
 
-pub address_as_it_is : asked_in (looking (whole (parts.Field 1 32)) false) (codes "::ffff:10.0.0.1 x") ≡ addresses.V6 0xffff0a000001 ∷ []
+pub address_as_it_is : asked_in (looking (whole (parts.Field (places.Number 1) 32)) false) (codes "::ffff:10.0.0.1 x") ≡ addresses.V6
+    0xffff0a000001 ∷ []
 unfolding address_of digits v6_of gap_below
 address_as_it_is = refl
 
 -- with `-4` or `-6`, the addresses of one family
-pub one_family : (asked_in (record (looking anywhere false) { family = families.V4 }) (codes "::1 10.0.0.1") ≡ addresses.V4 0x0a000001 ∷ []) × (asked_in (record (looking anywhere false) { family = families.V6 }) (codes "::1 10.0.0.1") ≡ addresses.V6 1 ∷ [])
+pub one_family : (asked_in (record (looking anywhere false) { family = families.V4 })
+    (codes "::1 10.0.0.1") ≡ addresses.V4 0x0a000001 ∷ [])
+    × (asked_in (record (looking anywhere false) { family = families.V6 }) (codes "::1 10.0.0.1") ≡ addresses.V6 1 ∷ [])
 unfolding address_in before_port address_of digits v6_of gap_below
 one_family = (refl, refl)
 
 -- with `--networks`, a network is found with its text; without it, only its address
-pub network_found : addresses_in (record (looking anywhere false) { listed = Networks [] }) (codes "to 10.0.0.1/24.") ≡ record { text = codes "10.0.0.1/24"; address = addresses.V4 0x0a000001 } ∷ []
+pub network_found : addresses_in (record (looking anywhere false) { listed = Networks [] })
+    (codes "to 10.0.0.1/24.") ≡ record { text = codes "10.0.0.1/24"; address = addresses.V4 0x0a000001 } ∷ []
 unfolding network_in named_network address_in before_port address_of digits v6_of gap_below
 network_found = refl
 
@@ -155,13 +153,15 @@ address_of_a_network = refl
 
 -- a network within the block of a list is in the list, with or without host bits; a larger network, one beside the
 -- block, and a text that is not a network are not
-pub networks_covered : map (covers_named (V4 (record { address = 0x0a000000; prefix = 9 }) ∷ []) false) (codes "10.1.2.3/9" ∷ codes "10.0.0.0/8" ∷ codes "10.128.0.0/9" ∷ codes "10.0.0.7" ∷ codes "x" ∷ [])
+pub networks_covered : map (covers_named (V4 (record { address = 0x0a000000; prefix = 9 }) ∷ []) false)
+    (codes "10.1.2.3/9" ∷ codes "10.0.0.0/8" ∷ codes "10.128.0.0/9" ∷ codes "10.0.0.7" ∷ codes "x" ∷ [])
     ≡ true ∷ false ∷ false ∷ true ∷ false ∷ []
 unfolding digits v6_of gap_below
 networks_covered = refl
 
 -- the second of two addresses is in the lists
-pub second_address_inside : ¬ (IsListed (looking anywhere false) ten) → IsListed (looking anywhere false) (record { text = codes "10.0.0.2"; address = addresses.V4 0x0a000002 })
+pub second_address_inside : ¬ (IsListed (looking anywhere false) ten)
+    → IsListed (looking anywhere false) (record { text = codes "10.0.0.2"; address = addresses.V4 0x0a000002 })
     → IsVerdict (looking anywhere false) (codes "10.0.0.1 10.0.0.2") (verdicts.Inside None)
 unfolding address_in before_port address_of digits v6_of gap_below
 second_address_inside not listed = (omega arith, inr (not, inl (listed, refl)))
@@ -173,13 +173,16 @@ longest_line line e long = omega (arith, e, long)
 pub line_too_long : (line : List ℕ) → length line ≡ 1048577 → IsVerdict (by false without.Drop) line verdicts.TooLong
 line_too_long line e = omega (arith, e)
 
-pub too_long_whatever_is_in_it : (line : List ℕ) → length line ≡ 1048577 → IsVerdict (by false without.Drop) line verdicts.NoAddress → ⊥
+pub too_long_whatever_is_in_it : (line : List ℕ) → length line ≡ 1048577
+    → IsVerdict (by false without.Drop) line verdicts.NoAddress → ⊥
 too_long_whatever_is_in_it line e bad = omega (arith, e, bad.0)
 
 -- if the block of length 8 is told, the one of length 16 does not contain the address
-pub no_longer_block : (tables : Tables) (address : IpAddr) → let wide = V4 (record { address = 167772160; prefix = 8 }) in let narrow = V4 (record { address = 167772160; prefix = 16 }) in
+pub no_longer_block : (tables : Tables) (address : IpAddr) → let wide =
+    V4 (record { address = 167772160; prefix = 8 }) in let narrow = V4 (record { address = 167772160; prefix = 16 }) in
     IsLongestBlock tables address wide → IsStored tables narrow → IpMember narrow address → ⊥
-no_longer_block tables address longest stored member = omega (arith, longest.longest (V4 (record { address = 167772160; prefix = 16 })) stored member)
+no_longer_block tables address longest stored member =
+    omega (arith, longest.longest (V4 (record { address = 167772160; prefix = 16 })) stored member)
 
 pub inside_is_selected : (bad : WithoutAddress) → is_selected (by false bad) (verdicts.Inside None) ≡ true
 inside_is_selected bad = refl
@@ -191,22 +194,27 @@ pub outside_of_none : (bad : WithoutAddress) → is_selected (by true bad) verdi
 outside_of_none bad = refl
 
 -- lines without an address, or that are too long, are dropped, with or without `-v`, or kept, or end the run
-pub selected_without_an_address : (is_selected (by true without.Drop) verdicts.NoAddress ≡ false) × (is_selected (by false without.Keep) verdicts.NoAddress ≡ true) × (is_selected (by false without.Keep) verdicts.TooLong ≡ false)
+pub selected_without_an_address : (is_selected (by true without.Drop) verdicts.NoAddress ≡ false) × (is_selected
+    (by false without.Keep) verdicts.NoAddress ≡ true) × (is_selected (by false without.Keep) verdicts.TooLong ≡ false)
 selected_without_an_address = (refl, refl, refl)
 
-pub refused_without_an_address : (is_refused (by true without.Stop) verdicts.NoAddress ≡ true) × (is_refused (by true without.Keep) verdicts.NoAddress ≡ false)
-    × (is_refused (by false without.Keep) verdicts.TooLong ≡ false) × (is_refused (by false without.Stop) verdicts.TooLong ≡ true)
+pub refused_without_an_address : (is_refused (by true without.Stop) verdicts.NoAddress ≡ true)
+    × (is_refused (by true without.Keep) verdicts.NoAddress ≡ false)
+    × (is_refused (by false without.Keep) verdicts.TooLong ≡ false)
+    × (is_refused (by false without.Stop) verdicts.TooLong ≡ true)
 refused_without_an_address = (refl, refl, refl, refl)
 
 -- the longest network and a tab, or a minus sign
-pub block_before_a_line : (tables : Tables) → mark_of (Blocks tables) (verdicts.Inside (Some (V4 (record { address = 167772160; prefix = 8 })))) ≡ codes "10.0.0.0/8\t"
+pub block_before_a_line : (tables : Tables) → mark_of (Blocks tables)
+    (verdicts.Inside (Some (V4 (record { address = 167772160; prefix = 8 })))) ≡ codes "10.0.0.0/8\t"
 unfolding digits
 block_before_a_line tables = refl
 
 pub no_block : (tables : Tables) → mark_of (Blocks tables) verdicts.NoAddress ≡ codes "-\t"
 no_block tables = refl
 
-pub block_of_ipv6 : (tables : Tables) → mark_of (Blocks tables) (verdicts.Inside (Some (V6 (record { address = 0; prefix = 0 })))) ≡ codes "::/0\t"
+pub block_of_ipv6 : (tables : Tables)
+    → mark_of (Blocks tables) (verdicts.Inside (Some (V6 (record { address = 0; prefix = 0 })))) ≡ codes "::/0\t"
 unfolding digits
 block_of_ipv6 tables = refl
 
@@ -214,8 +222,10 @@ pub no_mark : (sets : Sets) (verdict : Verdict) → mark_of (Addresses sets) ver
 no_mark sets verdict = refl
 
 -- the line follows the head and its mark as it was read; a name or nothing is printed in place of them
-pub what_is_shown : (tables : Tables) → let filter = record (by false without.Keep) { listed = Blocks tables; name = codes "log" } in
-    map (λ (shown : OutputMode). shown_of (record filter { shows = shown }) (codes "log:7:") verdicts.NoAddress (codes "a") (codes "a\r\n")) (shows.Lines ∷ shows.Count ∷ shows.Names ∷ shows.Nothing ∷ [])
+pub what_is_shown : (tables : Tables)
+    → let filter = record (by false without.Keep) { listed = Blocks tables; name = codes "log" } in
+    map (λ (shown : OutputMode). shown_of (record filter { shows = shown }) (codes "log:7:") verdicts.NoAddress
+    (codes "a") (codes "a\r\n")) (shows.Lines ∷ shows.Count ∷ shows.Names ∷ shows.Nothing ∷ [])
     ≡ codes "log:7:-\ta\r\n" ∷ [] ∷ codes "log\n" ∷ [] ∷ []
 what_is_shown tables = refl
 
@@ -226,10 +236,12 @@ pub line_counted : output_of (counting without.Drop) 1 (verdicts.Inside None) (e
 line_counted = refl
 
 -- with `-H`, the name of the log comes first, whatever it is; without it, nothing does
-pub line_named : (byte : ℕ) (name : List ℕ) → output_of (record (by false without.Drop) { name = byte ∷ name }) 1 (verdicts.Inside None) (ended (codes "a")) ≡ (byte ∷ name ++ codes ":") ++ codes "a\n"
+pub line_named : (byte : ℕ) (name : List ℕ) → output_of (record (by false without.Drop) { name = byte ∷ name }) 1
+    (verdicts.Inside None) (ended (codes "a")) ≡ (byte ∷ name ++ codes ":") ++ codes "a\n"
 line_named byte name = ap (λ (h : List ℕ). h ++ codes "a\n") (append-nil (byte ∷ name ++ codes ":"))
 
-pub longest_named : (tables : Tables) → output_of (record (by false without.Keep) { listed = Blocks tables; name = codes "log" }) 1 verdicts.NoAddress (ended (codes "a")) ≡ codes "log:-\ta\n"
+pub longest_named : (tables : Tables) → output_of (record (by false without.Keep)
+    { listed = Blocks tables; name = codes "log" }) 1 verdicts.NoAddress (ended (codes "a")) ≡ codes "log:-\ta\n"
 longest_named tables = refl
 
 pub standard_input_named : label_of true (codes "-") ≡ codes "(standard input)"
@@ -248,49 +260,16 @@ addresses_of_ten = record (looking anywhere false) {
   shows = shows.Addresses;
 }
 
-pub addresses_selected : output_of addresses_of_ten 1 (verdicts.Inside None) (ended (codes "a=10.0.0.1:80 b=11.0.0.1,10.0.0.2.")) ≡ codes "10.0.0.1\n10.0.0.2\n"
+pub addresses_selected : output_of addresses_of_ten 1 (verdicts.Inside None)
+    (ended (codes "a=10.0.0.1:80 b=11.0.0.1,10.0.0.2.")) ≡ codes "10.0.0.1\n10.0.0.2\n"
 unfolding address_in before_port address_of digits v6_of gap_below
 addresses_selected = refl
 
-pub addresses_named : output_of (record addresses_of_ten { name = codes "log" }) 1 (verdicts.Inside None) (ended (codes "10.0.0.1 10.0.0.2")) ≡ codes "log:10.0.0.1\nlog:10.0.0.2\n"
+pub addresses_named : output_of (record addresses_of_ten { name = codes "log" }) 1 (verdicts.Inside None)
+    (ended (codes "10.0.0.1 10.0.0.2")) ≡ codes "log:10.0.0.1\nlog:10.0.0.2\n"
 unfolding address_in before_port address_of digits v6_of gap_below
 addresses_named = refl
 
-pub no_addresses_counted : output_of (record addresses_of_ten { shows = shows.Count }) 1 (verdicts.Inside None) (ended (codes "10.0.0.1")) ≡ []
+pub no_addresses_counted : output_of (record addresses_of_ten { shows = shows.Count }) 1 (verdicts.Inside None)
+    (ended (codes "10.0.0.1")) ≡ []
 no_addresses_counted = refl
-
--- ---- what is reported
-
-pub a_refused_line : in_option (says.Value 6 (codes "list") ∷ says.Value 10 (codes "text") ∷ []) (record { list = 0; line = 7; fault = Entry Prefix }) ≡ (0, 7)
-a_refused_line = refl
-
--- a list named `-e` does not count as an `-e`
-pub the_second_text : in_option (says.Value 10 (codes "x") ∷ says.Value 6 (codes "-e") ∷ says.Value 10 (codes "y") ∷ []) (record { list = 2; line = 1; fault = Entry Prefix }) ≡ (2, 2)
-the_second_text = refl
-
-pub what_is_told_of_it : {Z : Type 0} (one two again : String Z) (area : Refusal → ℕ × ℕ) → string_bytes again ≡ codes "-e"
-    → area (record { list = 2; line = 1; fault = Entry Prefix }) ≡ (2, 2)
-    → refusals_text (codes "cidr_filter") (one ∷ two ∷ again ∷ []) area (record { kept = record { list = 2; line = 1; fault = Entry Prefix } ∷ []; more = 2 })
-    ≡ codes "cidr_filter: -e:2: refused prefix\ncidr_filter: 2 more refused lines\n"
-unfolding digits
-what_is_told_of_it one two again area a e = rw (e, a)
-
-pub logs_that_are_not_opened : map (closed_text (codes "cidr_filter") (codes "log")) (causes.Missing ∷ causes.Directory ∷ causes.Output ∷ [])
-    ≡ codes "cidr_filter: log: cannot open: no such file\n" ∷ codes "cidr_filter: log: cannot open: is a directory\n" ∷ codes "cidr_filter: log: input file is also the output\n" ∷ []
-logs_that_are_not_opened = refl
-
-pub a_field_without_addresses : lacking_by (whole (parts.Field 8 32)) (codes "log") 2 false ≡ codes "cidr_filter: log: no line has an address in field 8\n"
-unfolding digits
-a_field_without_addresses = refl
-
-pub a_text_without_addresses : lacking_by (after (codes "SRC=")) (codes "log") 1 false ≡ codes "cidr_filter: log: no line has an address after SRC=\n"
-a_text_without_addresses = refl
-
-pub a_log_with_an_address : lacking_by anywhere (codes "log") 2 true ≡ []
-a_log_with_an_address = refl
-
-pub a_log_without_lines : lacking_by anywhere (codes "log") 0 false ≡ []
-a_log_without_lines = refl
-
-pub a_missed_log : status_by false true 3 ≡ 2
-a_missed_log = refl

@@ -1,6 +1,6 @@
 -- Which lines of a log are selected.
 use Rattle.std.specs.Prelude.{◌≡◌, ℕ, ◌+◌, ◌-◌, ◌^◌, ◌<◌, ◌≤◌, ◌⊎◌, Bool, true, false, not, List, [], ◌∷◌, ◌++◌, Option}
-use Rattle.std.specs.Prelude.{◌&&◌, None, Some, length, filter, flat_map, codes, decimal, min, nat_lt, nat_le}
+use Rattle.std.specs.Prelude.{◌&&◌, None, Some, length, filter, flat_map, codes, decimal, min, nat_le}
 use Rattle.std.specs.Prelude.{if◌then◌else◌}
 use Rattle.std.specs.List.{AllByRecursion}
 use Rattle.ipnetwork_addr.specs.declared.ip.IpAddr.{IpAddr}
@@ -9,7 +9,12 @@ use Rattle.ipnetwork.specs.IpNetworkText.{ip_network_text}
 use Rattle.ipnetwork.specs.declared.ip_network.IpNetwork.{IpNetwork}
 use Rattle.line_addresses.specs.Addresses.{Spelled}
 use Rattle.line_addresses.specs.Areas.{spelled_in}
-use Rattle.program.specs.LogLines.{LogLine, content, printed, IsWhole}
+use Rattle.program.specs.LogLines.{LogLine}
+use Rattle.log_programs.specs.InTurn.{Ends, InTurn}
+use Rattle.log_programs.specs.LogReads.{OfLine}
+use Rattle.log_programs.specs.LogStats.{nothing, with_line, with_long}
+use Rattle.log_programs.specs.declared.log_stats.LogStats.{LogStats}
+use Rattle.cidr_filter.specs.declared.log.Tally.{Tally}
 use Rattle.cidr_filter.specs.Matcher.{IsIn, IsLongestBlock, asked, covers_named, has_address, reads_networks}
 use Rattle.log_programs.specs.WithoutAddress.{is_stopped}
 use Rattle.log_programs.specs.declared.without_address.WithoutAddress.{WithoutAddress}
@@ -174,46 +179,56 @@ shown_by shows.Nothing filter head verdict line text = []
 abbrev pub shown_of : Filter → List ℕ → Verdict → List ℕ → List ℕ → List ℕ
 shown_of filter head verdict line text = shown_by filter.shows filter head verdict line text
 
--- what is written for the line with this number: that if it is selected, else nothing
-abbrev pub output_of : Filter → ℕ → Verdict → LogLine → List ℕ
-output_of filter number verdict line = if is_selected filter verdict
-    then shown_of filter (head_of filter number) verdict (content line) (printed line) else []
+-- the counts of the lines of a log, and one line more, with this verdict. Each stops at 2^64 - 1
+abbrev pub fresh : Tally
+fresh = record { selected = 0; seen = nothing }
+
+abbrev pub seen_with : LogStats → Verdict → LogStats
+seen_with seen (verdicts.Inside told) = with_line seen true
+seen_with seen verdicts.Outside = with_line seen true
+seen_with seen verdicts.NoAddress = with_line seen false
+seen_with seen verdicts.TooLong = with_long seen
+
+abbrev pub counted : Tally → Verdict → Bool → Tally
+counted tally verdict selected = record {
+  selected = min (tally.selected + (if selected then 1 else 0)) (2 ^ 64 - 1);
+  seen = seen_with tally.seen verdict;
+}
+
+abbrev pub tally_with : Filter → Tally → Verdict → Tally
+tally_with filter tally verdict = counted tally verdict (is_selected filter verdict)
+
+-- what is written for the line with this verdict that comes next: something if it is selected, else nothing; `line` is
+-- it without its end, `text` as it is printed
+abbrev pub shown : Filter → Tally → Verdict → List ℕ → List ℕ → List ℕ
+shown filter tally verdict line text = if is_selected filter verdict
+    then shown_of filter (head_of filter (tally_with filter tally verdict).seen.lines) verdict line text else []
 
 -- nothing is printed, and the run ends at the first selected line
 abbrev pub is_silent : OutputMode → Bool
 is_silent shows.Nothing = true
 is_silent other = false
 
--- the number of selected lines is below the limit, or at most the limit; `None` is no limit
-abbrev pub is_below : Option ℕ → ℕ → Bool
-is_below None count = true
-is_below (Some most) count = nat_lt count most
+-- no more lines may be selected; `None` is no limit
+abbrev pub is_spent : Option ℕ → ℕ → Bool
+is_spent None selected = false
+is_spent (Some most) selected = nat_le most selected
 
-abbrev pub is_within : Option ℕ → ℕ → Bool
-is_within None count = true
-is_within (Some most) count = nat_le count most
+-- what the next line prints, and the counts with it, or `None` if it ends the run; those before it have the counts
+-- `tally`; `line` is it without its end, `text` as it is printed
+abbrev pub FiltersLine : Filter → Tally → List ℕ → List ℕ → List ℕ → Option Tally → Type 0
+FiltersLine filter tally line text output next = (verdict : Verdict) × IsVerdict filter line verdict
+    × (((is_refused filter verdict ≡ true) × Ends None output next)
+    ⊎ ((is_refused filter verdict ≡ false) × (output ≡ shown filter tally verdict line text)
+    × (next ≡ Some (tally_with filter tally verdict))))
 
--- 1 for a selected line, and 0 for another
-abbrev pub one_if : Bool → ℕ
-one_if selected = if selected then 1 else 0
+-- no line more may be selected
+abbrev pub is_full : Filter → Tally → Bool
+is_full filter tally = is_spent filter.most tally.selected
 
--- these lines, which follow `before` others of their log, have this output and this number of
--- selected lines, and none of them ends the run
-abbrev pub Filters : Filter → ℕ → List LogLine → List ℕ → ℕ → Type 0
-Filters filter before [] output count = (output ≡ []) × (count ≡ 0)
-Filters filter before (line ∷ lines) output count = (verdict : Verdict) × (others : List ℕ) × (more : ℕ)
-    × IsVerdict filter (content line) verdict
-    × (is_refused filter verdict ≡ false) × Filters filter (before + 1) lines others more
-    × (output ≡ output_of filter (before + 1) verdict line ++ others)
-    × (count ≡ one_if (is_selected filter verdict) + more)
-
--- there are no lines, or the last is selected and counts as a line whatever follows it
-abbrev pub LastIsSelected : Filter → Type 0 → List LogLine → Type 0
-LastIsSelected filter ends lines = (lines ≡ [])
-    ⊎ ((first : List LogLine) × (line : LogLine) × (verdict : Verdict) × (lines ≡ first ++ line ∷ [])
-    × IsWhole ends line × IsVerdict filter (content line) verdict × (is_selected filter verdict ≡ true))
-
--- no line after these is asked for: the number of selected lines is the limit
-pub record AreAll (filter : Filter) (ends : Type 0) (lines : List LogLine) (count : ℕ) : Type 0 where
-  pub most : filter.most ≡ Some count
-  pub last : LastIsSelected filter ends lines
+-- what the lines of a log print, and its counts, or `None` if a line ends the run; those before them have the counts
+-- `tally`. No line is looked at after the last that may be selected. If a device failed (`cut`), the log may end before
+-- any line
+abbrev pub Filters : Bool → Filter → Tally → List LogLine → List ℕ → Option Tally → Type 0
+Filters cut filter tally lines output end =
+    InTurn (is_full filter) (OfLine (FiltersLine filter)) cut tally lines output end

@@ -1,20 +1,15 @@
 -- How logs are filtered one after another.
-use Rattle.std.specs.Prelude.{◌≡◌, ℕ, ◌+◌, ◌-◌, ◌^◌, ◌||◌, ◌&&◌, ◌⊎◌, Bool, true, false, Option, List, [], ◌∷◌, ◌++◌}
-use Rattle.std.specs.Prelude.{if◌then◌else◌, nat_lt, codes, bytes_eq, decimal, min}
+use Rattle.std.specs.Prelude.{◌≡◌, ℕ, ◌+◌, ◌-◌, ◌^◌, ◌||◌, ◌&&◌, ◌⊎◌, Bool, true, false, Option, None, Some, List, []}
+use Rattle.std.specs.Prelude.{◌++◌, if◌then◌else◌, nat_lt, codes, bytes_eq, decimal, min}
 use Rattle.lists.specs.KnownLists.{KnownLists}
-use Rattle.cidr_filter.specs.Addressed.{seen_of, seen_by, ended_by}
-use Rattle.cidr_filter.specs.Filters.{IsVerdict, is_count, is_refused, is_silent, is_below, is_within, name_head}
-use Rattle.cidr_filter.specs.Filters.{Filters, AreAll}
-use Rattle.log_programs.specs.Closed.{closed_text}
-use Rattle.log_programs.specs.Seen.{is_missed}
-use Rattle.program.specs.LogLines.{LogLine, log_lines}
-use Rattle.program.specs.Logs.{IsAllOf, IsFirstOf}
+use Rattle.cidr_filter.specs.Filters.{Filters, fresh, is_count, is_silent, name_head}
+use Rattle.lines.specs.Outputs.{Written}
+use Rattle.log_programs.specs.LogsInTurn.{EndsLogs}
+use Rattle.log_programs.specs.WithoutAddress.{is_missed}
+use Rattle.program.specs.LogLines.{log_lines}
 use Rattle.cidr_filter.specs.declared.filter.Filter.{Filter}
-use Rattle.cidr_filter.specs.declared.filter.OutputMode.{OutputMode}
-use Rattle.cidr_filter.specs.declared.filter.Verdict.TheVariants as verdicts
-use Rattle.program.specs.declared.log_fault.LogFault.{LogFault}
-use Rattle.program.specs.declared.log_fault.LogFault.TheVariants as faults
-use Rattle.lists.specs.declared.opening.OpenFault.{OpenFault}
+use Rattle.cidr_filter.specs.declared.log.Tally.{Tally}
+use Rattle.cidr_filter.specs.declared.logs.Outcome.{Outcome}
 
 -- the label of a log, printed before its lines or their count, or in place of them: `(standard input)` for standard
 -- input, else its name; empty if logs are not named
@@ -31,80 +26,52 @@ abbrev pub count_line : Bool → List ℕ → ℕ → List ℕ
 count_line counts label selected =
     if counts then name_head label ++ (decimal (min selected (2 ^ 64 - 1)) ++ codes "\n") else []
 
--- these lines of the log with this name have this output, which ends with their count if lines are counted, and this
--- number of selected lines
-abbrev pub FiltersAs : Filter → List ℕ → List LogLine → List ℕ → ℕ → Type 0
-FiltersAs filter name lines output selected = (added : List ℕ)
-    × Filters (filter_for filter name) 0 lines added selected
-    × (output ≡ added ++ count_line (is_count filter.shows) (label_of filter.named name) selected)
+-- what a log comes to: how many of its lines are selected, and whether it could not be opened or a line is missed
+abbrev pub missing : Outcome
+missing = record { selected = 0; missed = true }
 
--- the log with this name was read to its end: its output, how many of its lines were selected, the reports about it,
--- and whether one of its lines is missed
-abbrev pub ReadsLog : Filter → KnownLists → List ℕ → List ℕ → ℕ → List ℕ → Bool → Type 0
-ReadsLog filter known name output selected told missed = (read : List ℕ) × IsAllOf known name read
-    × FiltersAs filter name (log_lines read) output selected
-    × (told ≡ ended_by filter name (seen_of filter (log_lines read))) × (is_below filter.most selected ≡ true)
-    × (missed ≡ is_missed filter.bad (seen_of filter (log_lines read)))
+abbrev pub outcome_of : Filter → Tally → Outcome
+outcome_of filter tally = record { selected = tally.selected; missed = is_missed filter.bad tally.seen }
 
--- the log was read up to the last line that may be selected; the same for the lines up to there, but without the report
--- that none of them has an address
-abbrev pub LeavesLog : Filter → KnownLists → List ℕ → List ℕ → ℕ → List ℕ → Bool → Type 0
-LeavesLog filter known name output selected told missed = (read : List ℕ) × (lines : List LogLine)
-    × (others : List LogLine) × known.may_open name true × IsFirstOf known name read
-    × (log_lines read ≡ lines ++ others) × FiltersAs filter name lines output selected
-    × AreAll (filter_for filter name) (IsAllOf known name read) lines selected
-    × (told ≡ seen_by filter name (seen_of filter lines)) × (missed ≡ is_missed filter.bad (seen_of filter lines))
+-- what no logs come to, and what logs and one more come to
+abbrev pub nothing : Outcome
+nothing = record { selected = 0; missed = false }
 
--- the log cannot be opened, which is reported with the cause
-abbrev pub MissesLog : KnownLists → List ℕ → List ℕ → ℕ → List ℕ → Bool → Type 0
-MissesLog known name output selected told missed = (fault : OpenFault) × known.may_open name false
-    × known.may_miss name fault × (output ≡ []) × (selected ≡ 0) × (told ≡ closed_text (codes "cidr_filter") name fault)
-    × (missed ≡ true)
+abbrev pub both : Outcome → Outcome → Outcome
+both total one =
+    record { selected = min (total.selected + one.selected) (2 ^ 64 - 1); missed = total.missed || one.missed }
 
--- whether the run ends after logs with this number of selected lines: with `-q`, if there is one
-abbrev pub is_enough : OutputMode → ℕ → Bool
-is_enough shown selected = is_silent shown && nat_lt 0 selected
+-- the count behind the lines of a log, unless one of these ended the run, and what the logs up to it come to; if the
+-- count cannot be written (`cut`), that ends the run
+abbrev pub CountsLog : Filter → Bool → Outcome → List ℕ → List ℕ → Option Tally → List ℕ → Option Outcome → Type 0
+CountsLog filter cut total name added None text next = (text ≡ added) × (next ≡ None)
+CountsLog filter cut total name added (Some tally) text next =
+    (text ≡ added ++ count_line (is_count filter.shows) (label_of filter.named name) tally.selected)
+    × ((next ≡ Some (both total (outcome_of filter tally))) ⊎ ((cut ≡ true) × (next ≡ None)))
 
--- the results for no logs
-abbrev pub NoLogs : List ℕ → ℕ → List ℕ → Bool → Type 0
-NoLogs output selected told missed = (output ≡ []) × (selected ≡ 0) × (told ≡ []) × (missed ≡ false)
+-- what the log with this name prints, and what the logs up to it come to, or `None` if it ends the run; it may not be
+-- opened
+abbrev pub FiltersLog : Filter → KnownLists → Bool → Outcome → List ℕ → List ℕ → Option Outcome → Type 0
+FiltersLog filter known cut total name text next =
+    (known.may_open name false × (text ≡ []) × (next ≡ Some (both total missing)))
+    ⊎ (known.may_open name true × (added : List ℕ) × (tally : Option Tally)
+    × ((log : List ℕ) → known.bytes_of name ≡ Some log
+    → Filters cut (filter_for filter name) fresh (log_lines log) added tally)
+    × CountsLog filter cut total name added tally text next)
 
--- after a log that ends the run (`true`), no other is opened; after any other log, `goes` holds
-abbrev pub GoesOn : Bool → Type 0 → List ℕ → ℕ → List ℕ → Bool → Type 0
-GoesOn true goes output selected told missed = NoLogs output selected told missed
-GoesOn false goes output selected told missed = goes
+-- no log more is opened: with `-q` (`silent`), after a selected line
+abbrev pub is_enough : Bool → Outcome → Bool
+is_enough silent total = silent && nat_lt 0 total.selected
 
--- the logs with these names were each read to the end, or left, or could not be opened, one after
--- another, up to the first that ends the run: their output, how many of their lines were selected,
--- the reports, and whether a log could not be opened or a line is missed
-abbrev pub FiltersLogs : Filter → KnownLists → List (List ℕ) → List ℕ → ℕ → List ℕ → Bool → Type 0
-FiltersLogs filter known [] output selected told missed = NoLogs output selected told missed
-FiltersLogs filter known (name ∷ names) output selected told missed = (added : List ℕ) × (others : List ℕ) × (one : ℕ)
-    × (more : ℕ) × (text : List ℕ) × (texts : List ℕ)
-    × (is_missed : Bool) × (are_missed : Bool)
-    × (ReadsLog filter known name added one text is_missed
-    ⊎ (LeavesLog filter known name added one text is_missed ⊎ MissesLog known name added one text is_missed))
-    × GoesOn (is_enough filter.shows one)
-    (FiltersLogs filter known names others more texts are_missed) others more texts are_missed
-    × (output ≡ added ++ others) × (selected ≡ one + more) × (told ≡ text ++ texts)
-    × (missed ≡ (is_missed || are_missed))
+-- the exit status after logs that come to this, or after one that ended the run: 0 if no log more is opened; else 2 if
+-- one could not be opened or a line is missed; else 0 if a line was selected, and 1 if none was
+abbrev pub status_by : Bool → Option Outcome → ℕ
+status_by silent None = 2
+status_by silent (Some total) = if is_enough silent total then 0 else if total.missed then 2
+    else if nat_lt 0 total.selected then 0 else 1
 
--- when a log ends the run by this fault, this number of its lines may be selected: fewer than `most`, or, if a write
--- failed, at most that many
-abbrev pub is_short : LogFault → Option ℕ → ℕ → Bool
-is_short faults.Read most count = is_below most count
-is_short faults.Write most count = is_within most count
-is_short faults.Address most count = is_below most count
-is_short faults.Length most count = is_below most count
-is_short faults.Endless most count = is_below most count
-
--- this line, given without its end, ends the run by this fault: it has no address, or is too long, and `--bad stop` is
--- given
-abbrev pub EndsRunBy : Filter → LogFault → List ℕ → Type 0
-EndsRunBy filter faults.Read line = ⊥
-EndsRunBy filter faults.Write line = ⊥
-EndsRunBy filter faults.Address line = IsVerdict filter line verdicts.NoAddress
-    × (is_refused filter verdicts.NoAddress ≡ true)
-EndsRunBy filter faults.Length line = IsVerdict filter line verdicts.TooLong
-    × (is_refused filter verdicts.TooLong ≡ true)
-EndsRunBy filter faults.Endless line = ⊥
+-- the logs with these names were filtered
+abbrev pub FiltersLogs : {W : Type 0} → Filter → KnownLists → List (List ℕ) → Written W → Written W → ℕ → Type 0
+FiltersLogs filter known names old new result =
+    EndsLogs (is_enough (is_silent filter.shows)) (FiltersLog filter known) (status_by (is_silent filter.shows)) nothing
+    known names old new result

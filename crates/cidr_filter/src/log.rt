@@ -1,21 +1,16 @@
 //! Filters the lines of a log.
-ghost use Rattle.std.specs.Prelude.{◌≡◌, ◌||◌, ◌++◌, [], ℕ, List, true, Option, IsTrue, OnOk, OnErr, IfOk, IsOkUnless};
-ghost use Rattle.lines.specs.Outputs.{AppendsBeginning};
+ghost use Rattle.std.specs.Prelude.{◌≡◌, ◌++◌, [], ℕ, List, true, Option, OnOk, OnErr, IfOk, IfErr, IsTrue, IsOkUnless};
+ghost use Rattle.lines.specs.Outputs.{Prints, FailsIn};
 ghost use Rattle.lines.specs.Watched.{device_of, has_failed};
-ghost use Rattle.program.specs.LogFaults.{ended_by_write};
+ghost use Rattle.log_programs.specs.LogReads.{PrintsLog};
+ghost use Rattle.log_programs.specs.LogStats.{with_line};
 ghost use Rattle.program.specs.LogLines.{feed_behind};
 ghost use Rattle.program.specs.LogReaders.{HandsFirst};
-ghost use Rattle.log_programs.specs.LogEnds.{EndsOrStops};
-ghost use Rattle.log_programs.specs.LogStats.{with_line};
-ghost use Rattle.cidr_filter.specs.Filters.{is_refused, one_if};
-ghost use Rattle.cidr_filter.specs.Stands.{stand, begun, Goes};
-ghost use Rattle.cidr_filter.specs.Stops.{EndsBy, Stops};
+ghost use Rattle.cidr_filter.specs.Filters.{FiltersLine, is_full, is_refused, is_selected, is_spent, counted, fresh};
 ghost use Rattle.cidr_filter.specs.Private.Copying.{copied, PrintsAsRead};
-ghost use Rattle.cidr_filter.specs.Private.Judging.{fault_of};
-ghost use Rattle.cidr_filter.specs.Private.Progress.{FiltersOrStops};
+ghost use Rattle.cidr_filter.specs.Private.Progress.{PassesLine, LineStops};
 
 use crate::filter::{Filter, Verdict};
-use crate::leaving::{fewer, is_spent, leave};
 use crate::printing::{print_selected, prints_as_read};
 use crate::recent::Recent;
 use lines::line_end::LineEnd;
@@ -44,12 +39,36 @@ pub struct Tally {
     pub seen: LogStats,
 }
 
+impl Tally {
+    /// Returns the counts of no lines.
+    pub(crate) fn new() -> Tally
+        ensures { result ≡ fresh }
+    {
+        Tally {
+            selected: 0,
+            seen: LogStats::new(),
+        }
+    }
+
+    // Counts a line with this verdict.
+    fn add(&mut self, verdict: &Verdict, is_selected: bool)
+        ensures { self.new ≡ counted self.old verdict.now is_selected }
+    {
+        match *verdict {
+            Verdict::TooLong => self.seen.add_long(),
+            Verdict::NoAddress => self.seen.add(false),
+            Verdict::Inside(_) | Verdict::Outside => self.seen.add(true),
+        }
+        self.selected = self.selected.saturating_add(u64::from(is_selected));
+    }
+}
+
 /// Filters the lines of a log, up to the last that may be selected, and writes or only counts the
 /// selected ones. No line after that is asked for, so none is waited for.
 ///
 /// What is printed for the lines that a read completes is written before the next read. After a
 /// failed read nothing is written. If lines that are too long end the run, one does so even before
-/// its end was read. The counts of the lines in `tally` start anew.
+/// its end was read.
 pub fn filter_log<R: Read, W: Write>(
     filter: &Filter,
     log: &mut LogReader<'_>,
@@ -60,50 +79,50 @@ pub fn filter_log<R: Read, W: Write>(
     // `log` has read nothing, and it hurries exactly if a line that is too long ends the run.
     requires unread { (remained : Option (List ℕ)) → HandsFirst log.old remained remained [] }
     requires hurries { log.old.hurries ≡ is_refused filter.now Verdict.TooLong }
-    ensures { EndsOrStops (λ reached. EndsBy reached filter.now log.new) (Stops filter.now) result
-        (R.remaining (device_of reader.old)) (R.remaining (device_of reader.new))
-        (has_failed reader.old) (has_failed reader.new) output.old output.new
-        (begun (stand output.old tally.old)) (stand output.new tally.new) }
+    ensures { PrintsLog (is_full filter.now) (FiltersLine filter.now) tally.old result
+        (R.remaining (device_of reader.old)) (has_failed reader.new)
+        output.old output.new tally.new }
 {
-    tally.seen = LogStats::new();
     let refuses_long_lines = filter.refuses(&Verdict::TooLong);
-    let mut left = filter.most;
-    let mut recent = Recent::new(tally.selected);
     let as_read = prints_as_read(filter);
-    if is_spent(left) {
-        return leave(output);
-    }
-    'lines: loop {
+    let mut recent = Recent::new(0);
+    'lines: while !is_spent(filter.most, tally.selected) {
         match log.next(reader, output) {
             Ok(NextLogLine::Line(end)) => {
-                let line = log.line();
-                let whole = log.whole_line();
+                let (line, whole) = (log.line(), log.whole_line());
                 let is_copied = as_read && recent.are_many;
-                match filter_line(filter, line, whole, end, is_copied, output, tally) {
-                    Ok(is_selected) => {
-                        left = fewer(left, is_selected);
-                        recent.note(tally.seen.lines, tally.selected);
-                    }
-                    Err(fault) => return Err(fault),
-                }
-                if is_spent(left) {
-                    return leave(output);
-                }
+                filter_line(filter, line, whole, end, is_copied, output, tally)?;
+                recent.note(tally.seen.lines, tally.selected);
             }
             Ok(NextLogLine::TooLong) => {
                 if refuses_long_lines {
                     return Err(LogFault::Length);
                 }
-                tally.seen.add_long();
+                tally.add(&Verdict::TooLong, false);
             }
             Ok(NextLogLine::End) => return Ok(Reached::End),
             Err(fault) => return Err(fault),
         }
     }
+    match output.hand_on() {
+        Ok(()) => Ok(Reached::Last),
+        Err(_) => Err(LogFault::Write),
+    }
 }
 
-// Filters a line within the limit, and returns whether it is selected. `whole` is the line with
-// its end. If `is_copied`, the line may be copied before it is known whether it is selected.
+// Returns whether no more lines may be selected.
+#[inline(always)]
+fn is_spent(most: Option<u64>, selected: u64) -> bool
+    ensures { result ≡ is_spent most selected }
+{
+    match most {
+        Some(most) => selected >= most,
+        None => false,
+    }
+}
+
+// Filters a line within the limit. `whole` is the line with its end. If `is_copied`, the line may
+// be copied before it is known whether it is selected.
 fn filter_line<W: Write>(
     filter: &Filter,
     line: &[u8],
@@ -112,10 +131,12 @@ fn filter_line<W: Write>(
     is_copied: bool,
     output: &mut Output<'_, W>,
     tally: &mut Tally,
-) -> Result<bool, LogFault>
+) -> Result<(), LogFault>
     requires copied { IsTrue is_copied → PrintsAsRead filter.now }
-    ensures { FiltersOrStops result filter.now line.now (whole.now ++ feed_behind end)
-        output.old tally.old output.new tally.new }
+    ensures ok { OnOk result (PassesLine filter.now line.now (whole.now ++ feed_behind end)
+        output.old tally.old output.new tally.new) }
+    ensures err { IfErr result (LineStops filter.now line.now (whole.now ++ feed_behind end)
+        output.old tally.old output.new) }
 {
     if is_copied && has_feed(end) {
         if let Some(is_selected) = filter.selects_by_address(line) {
@@ -132,22 +153,16 @@ fn pass_line<W: Write>(
     whole: &[u8],
     output: &mut Output<'_, W>,
     tally: &mut Tally,
-) -> Result<bool, LogFault>
-    ensures ok { OnOk result (Goes
-        (stand output.old tally.old) (stand output.new tally.new)
-        (copied is_selected whole.now) (one_if is_selected)) }
-    ensures selected { IfOk result (λ selected. selected ≡ is_selected) }
-    ensures err { OnErr result (IsTrue output.new.failed) }
-    ensures beginning { OnErr result (AppendsBeginning output.old.holds output.new.holds
-        (output.old.waits ++ copied is_selected whole.now)) }
+) -> Result<(), LogFault>
+    ensures ok { OnOk result (Prints output.old output.new (copied is_selected whole.now)) }
+    ensures err { OnErr result (FailsIn output.old output.new (copied is_selected whole.now)) }
+    ensures failed { OnErr result (IsTrue output.new.failed) }
     ensures fault { IsOkUnless result LogFault.Write }
-    ensures seen { tally.new.seen ≡ with_line tally.old.seen true }
-    ensures writer_failed { output.new.failed ≡ (output.old.failed || ended_by_write result) }
+    ensures tally { tally.new ≡ counted tally.old Verdict.Outside is_selected }
 {
-    tally.seen.add(true);
-    tally.selected = tally.selected.saturating_add(u64::from(is_selected));
+    tally.add(&Verdict::Outside, is_selected);
     match output.put_if(whole, is_selected) {
-        Ok(()) => Ok(is_selected),
+        Ok(()) => Ok(()),
         Err(_) => Err(LogFault::Write),
     }
 }
@@ -171,31 +186,26 @@ fn filter_judged<W: Write>(
     end: LineEnd,
     output: &mut Output<'_, W>,
     tally: &mut Tally,
-) -> Result<bool, LogFault>
-    ensures { FiltersOrStops result filter.now line.now (whole.now ++ feed_behind end)
-        output.old tally.old output.new tally.new }
+) -> Result<(), LogFault>
+    ensures ok { OnOk result (PassesLine filter.now line.now (whole.now ++ feed_behind end)
+        output.old tally.old output.new tally.new) }
+    ensures err { IfErr result (LineStops filter.now line.now (whole.now ++ feed_behind end)
+        output.old tally.old output.new) }
 {
     let verdict = filter.judge(line);
     if filter.refuses(&verdict) {
-        return Err(refusal_of(&verdict));
+        return match verdict {
+            Verdict::TooLong => Err(LogFault::Length),
+            _ => Err(LogFault::Address),
+        };
     }
-    tally.seen.add(verdict.is_addressed());
-    if !filter.selects(&verdict) {
-        return Ok(false);
+    let is_selected = filter.selects(&verdict);
+    tally.add(&verdict, is_selected);
+    if !is_selected {
+        return Ok(());
     }
-    tally.selected = tally.selected.saturating_add(1);
     match print_selected(filter, tally.seen.lines, &verdict, line, whole, end, output) {
-        Ok(()) => Ok(true),
+        Ok(()) => Ok(()),
         Err(_) => Err(LogFault::Write),
-    }
-}
-
-// Returns the fault of a line with this verdict that ends the run.
-fn refusal_of(verdict: &Verdict) -> LogFault
-    ensures { result ≡ fault_of verdict.now }
-{
-    match *verdict {
-        Verdict::TooLong => LogFault::Length,
-        _ => LogFault::Address,
     }
 }

@@ -1,5 +1,6 @@
 //! Reads the lists of a run.
 ghost use Rattle.std.specs.Prelude.{◌≡◌, false, OnOk, IfOk, IfErr};
+ghost use Rattle.ipnetwork_blocks.specs.Aggregate.{IsAggregate};
 ghost use Rattle.lists.specs.Lists.{nothing_read};
 ghost use Rattle.lists.specs.Refusals.{no_refusals};
 ghost use Rattle.cidr_filter.specs.Reading.{question_of, source_by, source_of, ReadsItem, ReadsItems, StopsAtItem, StopsAtItems, HoldsRead};
@@ -81,11 +82,11 @@ fn listed_by(
 {
     match question {
         Question::Address => {
-            let (v4, v6, refusals) = reader.into_sets();
+            let (v4, v6, refusals) = into_sets(reader);
             (addresses_of(alloc, &v4, &v6), refusals)
         }
         Question::Network => {
-            let (v4, v6, refusals) = reader.into_sets();
+            let (v4, v6, refusals) = into_sets(reader);
             let set = IpAddressSet::from_parts(v4, v6);
             (Ok(Matcher::Networks(set)), refusals)
         }
@@ -94,6 +95,20 @@ fn listed_by(
             (blocks_of(alloc, v4, v6), refusals)
         }
     }
+}
+
+// Returns the sets of the addresses that were read, and the refused lines.
+fn into_sets(reader: ListReader) -> (AddressSet<Ipv4Network>, AddressSet<Ipv6Network>, Refusals)
+    ensures v4 { IsAggregate 32 reader.v4 result.0 }
+    ensures v6 { IsAggregate 128 reader.v6 result.1 }
+    ensures refused { result.2 ≡ reader.refused }
+{
+    let (v4, v6, refusals) = reader.into_networks();
+    (
+        AddressSet::from_networks(v4),
+        AddressSet::from_networks(v6),
+        refusals,
+    )
 }
 
 // Reads the lists that the options name.

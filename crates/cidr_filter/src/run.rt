@@ -3,8 +3,7 @@ ghost use Rattle.std.specs.Prelude.{◌≡◌, [], map};
 ghost use Rattle.std.specs.String.{string_bytes};
 ghost use Rattle.options.specs.Given.{inputs_of};
 ghost use Rattle.program.specs.Endings.{ending};
-ghost use Rattle.cidr_filter.specs.Runs.{EndsRequest, EndsReading, EndsAs, filter_of, family_of, is_stopped_by, most_of, up_to_one, shows_of, is_named};
-ghost use Rattle.cidr_filter.specs.Reported.{told_name};
+ghost use Rattle.cidr_filter.specs.Runs.{EndsRequest, EndsAs, filter_of, family_of, is_stopped_by, most_of, up_to_one, shows_of, is_named};
 
 use crate::filter::{Family, Filter, OutputMode};
 use crate::help::{HELP, PROGRAM, USAGE, VERSION};
@@ -41,7 +40,7 @@ pub(crate) fn run<L: OpenLists, W: Write, E: Write>(
     output: &mut Output<'_, W>,
     errors: &mut Output<'_, E>,
 ) -> u8
-    ensures { EndsAs PROGRAM.now HELP.now VERSION.now USAGE.now (L.known lists.now) words.now
+    ensures { EndsAs PROGRAM.now HELP.now VERSION.now (L.known lists.now) words.now
         (ending output.old output.new errors.old errors.new result) }
 {
     let about = About {
@@ -95,9 +94,8 @@ fn filter_files<L: OpenLists, W: Write, E: Write>(
     output: &mut Output<'_, W>,
     errors: &mut Output<'_, E>,
 ) -> u8
-    requires names { map string_bytes names.now ≡ map told_name items.now }
     requires files { map string_bytes files.now ≡ inputs_of items.now }
-    ensures { EndsReading (L.known lists.now) items.now names.now
+    ensures { EndsRequest (L.known lists.now) items.now
         (ending output.old output.new errors.old errors.new result) }
 {
     let question = question_of(items);

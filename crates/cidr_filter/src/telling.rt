@@ -1,8 +1,4 @@
 //! The names and numbers by which refused lines are reported.
-ghost use Rattle.std.specs.Prelude.{◌≡◌, ◌+◌, map, take, IfOk};
-ghost use Rattle.std.specs.String.{string_bytes};
-ghost use Rattle.cidr_filter.specs.Reported.{is_text, is_text_at, texts_in, told_name};
-
 use crate::reading::{Source, source_of};
 use lists::Refusal;
 use options::items::Item;
@@ -16,10 +12,6 @@ pub(crate) struct InOptions<'a, 'b> {
 }
 
 impl Places for InOptions<'_, '_> {
-    ghost use Rattle.cidr_filter.specs.Reported.{in_option};
-
-    ghost told_at = { λ options refusal. in_option options.items.now refusal };
-
     fn place(&self, refusal: Refusal) -> (usize, u64) {
         if is_text_at(self.items, refusal.list) {
             (refusal.list, texts_up_to(self.items, refusal.list))
@@ -30,9 +22,7 @@ impl Places for InOptions<'_, '_> {
 }
 
 // Returns whether the item at this index is an `-e`.
-fn is_text_at(items: &[Item<'_>], place: usize) -> bool
-    ensures { result ≡ is_text_at items.now place }
-{
+fn is_text_at(items: &[Item<'_>], place: usize) -> bool {
     match items.get(place) {
         Some(item) => is_text(item),
         None => false,
@@ -40,44 +30,32 @@ fn is_text_at(items: &[Item<'_>], place: usize) -> bool
 }
 
 // Returns whether an item is an `-e`.
-fn is_text(item: &Item<'_>) -> bool
-    ensures { result ≡ is_text item.now }
-{
+fn is_text(item: &Item<'_>) -> bool {
     matches!(source_of(item), Source::Text(_))
 }
 
 // Returns how many of the items up to this index are an `-e`.
-fn texts_up_to(items: &[Item<'_>], place: usize) -> u64
-    ensures { result ≡ texts_in (take (place + 1) items.now) }
-{
+fn texts_up_to(items: &[Item<'_>], place: usize) -> u64 {
     texts_in(&items[..items.len().min(place.saturating_add(1))]) as u64
 }
 
 // Returns how many of the items are an `-e`.
-fn texts_in(items: &[Item<'_>]) -> usize
-    ensures { result ≡ texts_in items.now }
-{
+fn texts_in(items: &[Item<'_>]) -> usize {
     items.iter().filter(|item| is_text(item)).count()
 }
 
 /// Returns for each item the name by which refused lines of its list are reported: the list's own,
 /// or `-e`; empty for an item that names no list. Returns `AllocError` if memory runs out.
-pub(crate) fn names_of(alloc: Global, items: &[Item<'_>]) -> Result<Vec<String>, AllocError>
-    ensures { IfOk result (λ names. map string_bytes names.items ≡ map told_name items.now) }
-{
+pub(crate) fn names_of(alloc: Global, items: &[Item<'_>]) -> Result<Vec<String>, AllocError> {
     let mut names = Vec::new(alloc);
-    let mut at = 0;
-    while at < items.len() {
-        names.push(told_name(alloc, &items[at])?)?;
-        at += 1;
+    for item in items {
+        names.push(told_name(alloc, item)?)?;
     }
     Ok(names)
 }
 
 // Returns the name by which refused lines of the list that an item names are reported.
-fn told_name(alloc: Global, item: &Item<'_>) -> Result<String, AllocError>
-    ensures { IfOk result (λ name. string_bytes name ≡ told_name item.now) }
-{
+fn told_name(alloc: Global, item: &Item<'_>) -> Result<String, AllocError> {
     match source_of(item) {
         Source::List(name) => String::from_str(alloc, name.as_str()),
         Source::Text(_) => String::from_str(alloc, "-e"),

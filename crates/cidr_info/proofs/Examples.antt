@@ -1,11 +1,5 @@
 -- Networks at which a misreading of the definitions would show. Each of these computes.
-use Rattle.std.proofs.Common.{◌≡◌, [], ◌∷◌, ◌++◌, refl}
-use Rattle.std.specs.Prelude.{codes}
-use Rattle.std.specs.Fmt.{digits}
-use Rattle.ipnetwork.specs.declared.ip_network.IpNetwork.TheVariants.{V4, V6}
-use Rattle.cidr_info.specs.Fields.{value_of}
-use Rattle.cidr_info.specs.Words.{lines_said, said_of}
-use Rattle.cidr_info.specs.Zones.{zone_of}
+use Rattle.cidr_info.proofs.Words.{◌≡◌, [], ◌∷◌, ◌++◌, refl, codes, filter, None, range_with_len, digits, v6_of, gap_below, V4, V6, value_of, is_blank, is_skipped, lines_said, network_in, zone_of}
 use Rattle.cidr_info.specs.declared.field.Field.TheVariants as says
 
 -- the examples of RFC 1035, section 3.5, and of RFC 3596, section 2.5
@@ -27,14 +21,18 @@ whole_octets_alone = (refl, refl)
 -- all of IPv4 and of IPv6: the number of addresses needs a bit more than an address
 pub all : (value_of says.Hosts (V4 (record { address = 0; prefix = 0 })) ≡ codes "0.0.0.1 - 255.255.255.254")
     × (value_of says.Addresses (V4 (record { address = 0; prefix = 0 })) ≡ codes "4294967296")
-    × (value_of says.Addresses (V6 (record { address = 0; prefix = 0 })) ≡ codes "340282366920938463463374607431768211456")
+    × (value_of says.Addresses (V6 (record { address = 0; prefix = 0 })) ≡ codes
+    "340282366920938463463374607431768211456")
 unfolding digits
 all = (refl, refl, refl)
 
 -- 30 leaves two hosts, 31 has two (RFC 3021) and 32 one, also where they are the last addresses
-pub last_ones : (value_of says.Hosts (V4 (record { address = 4294967295; prefix = 30 })) ≡ codes "255.255.255.253 - 255.255.255.254")
-    × (value_of says.Hosts (V4 (record { address = 4294967295; prefix = 31 })) ≡ codes "255.255.255.254 - 255.255.255.255")
-    × (value_of says.Hosts (V4 (record { address = 4294967295; prefix = 32 })) ≡ codes "255.255.255.255 - 255.255.255.255")
+pub last_ones : (value_of says.Hosts (V4 (record { address = 4294967295; prefix = 30 })) ≡ codes
+    "255.255.255.253 - 255.255.255.254")
+    × (value_of says.Hosts (V4 (record { address = 4294967295; prefix = 31 })) ≡ codes
+    "255.255.255.254 - 255.255.255.255")
+    × (value_of says.Hosts (V4 (record { address = 4294967295; prefix = 32 })) ≡ codes
+    "255.255.255.255 - 255.255.255.255")
     × (value_of says.Wildcard (V4 (record { address = 4294967295; prefix = 32 })) ≡ codes "0.0.0.0")
 unfolding digits
 last_ones = (refl, refl, refl, refl)
@@ -42,7 +40,8 @@ last_ones = (refl, refl, refl, refl)
 -- an address of IPv6 alone
 pub one_of_ipv6 : (value_of says.Network (V6 (record { address = 1; prefix = 128 })) ≡ codes "::1/128")
     × (value_of says.Addresses (V6 (record { address = 1; prefix = 128 })) ≡ codes "1")
-    × (value_of says.Hexadecimal (V6 (record { address = 1; prefix = 128 })) ≡ codes "0x00000000000000000000000000000001")
+    × (value_of says.Hexadecimal (V6 (record { address = 1; prefix = 128 })) ≡ codes
+    "0x00000000000000000000000000000001")
 unfolding digits
 one_of_ipv6 = (refl, refl, refl)
 
@@ -54,6 +53,15 @@ pub host_bits_stay : (value_of says.Network (V4 (record { address = 167840032; p
 unfolding digits
 host_bits_stay = (refl, refl, refl, refl)
 
--- a blank line and a comment count, and say nothing; a return is no part of the text
-pub second_line : lines_said 1 (codes " #x" ∷ (codes " ::1" ++ 13 ∷ []) ∷ [] ∷ []) ≡ said_of 2 (codes "::1") ∷ []
-second_line = refl
+-- a blank line and a comment say nothing; a return is no part of the text; and a text may name no network
+pub lines_in_turn : lines_said (codes " #x" ∷ (codes " ::1" ++ 13 ∷ []) ∷ [] ∷ codes "::1 #" ∷ [])
+    ≡ network_in (codes "::1") ∷ None ∷ []
+unfolding digits v6_of gap_below
+lines_in_turn = refl
+
+-- of the 256 bytes, those around a text that are no part of it, and those before it that begin a comment
+pub blanks : filter is_blank (range_with_len 0 256) ≡ 9 ∷ 13 ∷ 32 ∷ []
+blanks = refl
+
+pub comments : filter (λ byte. is_skipped (byte ∷ codes "::1")) (range_with_len 0 256) ≡ 35 ∷ []
+comments = refl

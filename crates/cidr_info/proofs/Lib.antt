@@ -1,7 +1,5 @@
 pub mod Ends
 pub mod Examples
-pub mod Labels
-pub mod LawExamples
-pub mod Lines
-pub mod Places
+pub mod Known
 pub mod Texts
+pub mod Words

@@ -1,9 +1,7 @@
 -- What the contracts of this crate cite.
 pub mod Fields
-pub mod Laws
 pub mod Numbers
 pub mod Options
-pub mod Refusals
 pub mod Runs
 pub mod Texts
 pub mod Words

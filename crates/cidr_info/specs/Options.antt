@@ -14,16 +14,14 @@ json = 1
 
 -- the options, in the order of their rows
 abbrev pub entries : List Entry
-entries = long (codes "--in") kinds.Text true (codes "not a network") ∷ long_flag (codes "--json")
-    ∷ alone (codes "--help") (codes "not the only argument")
-    ∷ alone (codes "--version") (codes "not the only argument")
-    ∷ alone (codes "--quiet") (codes "taken only once, as the first word") ∷ []
+entries =
+    long (codes "--in") kinds.Text true ∷ long_flag (codes "--json") ∷ alone (codes "--help")
+    ∷ alone (codes "--version") ∷ alone (codes "--quiet") ∷ []
 
 -- `--in` may be given only once, and not together with `--json`
-abbrev pub pairs : List (ℕ × ℕ × List ℕ)
-pairs = (in_network, in_network, codes "--in is given more than once")
-    ∷ (in_network, json, codes "--in does not go with --json") ∷ []
+abbrev pub pairs : List (ℕ × ℕ)
+pairs = (in_network, in_network) ∷ (in_network, json) ∷ []
 
--- the table has these options and these pairs, requires no option, and has this message for a missing NETWORK
+-- the table has these options and these pairs, and requires no option
 abbrev pub IsOptions : Table → Type 0
-IsOptions table = IsTable table entries pairs [] (codes "no NETWORK is given; - is standard input")
+IsOptions table = IsTable table entries pairs []

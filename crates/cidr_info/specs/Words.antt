@@ -1,6 +1,6 @@
 -- What the words of a command line and the lines of standard input say.
-use Rattle.std.specs.Prelude.{ℕ, ◌+◌, ◌-◌, ◌^◌, ◌==◌, ◌||◌, min, Bool, true, false, List, [], ◌∷◌, ◌++◌, Option, None}
-use Rattle.std.specs.Prelude.{Some, Result, Ok, Err, if◌then◌else◌, codes, bytes_eq}
+use Rattle.std.specs.Prelude.{ℕ, ◌==◌, ◌||◌, Bool, true, false, List, [], ◌∷◌, Option, None, Some, Result, Ok, Err}
+use Rattle.std.specs.Prelude.{if◌then◌else◌, codes, bytes_eq}
 use Rattle.std.specs.List.{flat_map, list_any, slice_split}
 use Rattle.ipnetwork.specs.Computed.IpNetworkText.{ip_network_of}
 use Rattle.ipnetwork.specs.declared.ip_network.IpNetwork.{IpNetwork}
@@ -18,16 +18,6 @@ if_read (Err fault) = None
 abbrev pub network_in : List ℕ → Option IpNetwork
 network_in text = if_read (ip_network_of text)
 
--- a text, the number of its line (0 for a word of the command line), and the network that it names, if it names one
-pub record Saying : Type 0 where
-  pub line : ℕ
-  pub text : List ℕ
-  pub network : Option IpNetwork
-
--- this text, on a line of this number, and the network that it names
-abbrev pub said_of : ℕ → List ℕ → Saying
-said_of line text = record { line = line; text = text; network = network_in text }
-
 -- the byte is a space, a tab or a carriage return
 abbrev pub is_blank : ℕ → Bool
 is_blank byte = byte == 32 || byte == 9 || byte == 13
@@ -37,16 +27,15 @@ abbrev pub is_skipped : List ℕ → Bool
 is_skipped [] = true
 is_skipped (byte ∷ rest) = byte == 35
 
--- what a line of this number says: its text without the blanks around it, or nothing if that is empty or a comment
-abbrev pub line_said : ℕ → List ℕ → List Saying
-line_said line bytes =
-    if is_skipped (trimmed_by is_blank bytes) then [] else said_of line (trimmed_by is_blank bytes) ∷ []
+-- what a line says: the network that its text without the blanks around it names, if that names one; nothing if that is
+-- empty or a comment
+abbrev pub line_said : List ℕ → List (Option IpNetwork)
+line_said bytes =
+    if is_skipped (trimmed_by is_blank bytes) then [] else network_in (trimmed_by is_blank bytes) ∷ []
 
--- what lines say, one after another, where the first has this number and each other one more, up to the greatest of 64
--- bits
-abbrev pub lines_said : ℕ → List (List ℕ) → List Saying
-lines_said line [] = []
-lines_said line (bytes ∷ others) = line_said line bytes ++ lines_said (min (line + 1) (2 ^ 64 - 1)) others
+-- what lines say, one after another
+abbrev pub lines_said : List (List ℕ) → List (Option IpNetwork)
+lines_said lines = flat_map line_said lines
 
 -- the item is the word `-`, which stands for standard input
 abbrev pub is_input : Item → Bool
@@ -57,16 +46,16 @@ is_input item = false
 abbrev pub reads_input : List Item → Bool
 reads_input items = list_any is_input items
 
--- what a word says, where `-` stands for the lines of `input`, which line feeds (byte 10) separate; an option says
--- nothing
-abbrev pub word_said : List ℕ → Item → List Saying
+-- what a word says: the network that it names, if it names one; `-` stands for the lines of `input`, which line feeds
+-- (byte 10) separate; an option says nothing
+abbrev pub word_said : List ℕ → Item → List (Option IpNetwork)
 word_said input (says.File name) =
-    if bytes_eq name (codes "-") then lines_said 1 (slice_split (λ byte. byte == 10) input)
-    else said_of 0 name ∷ []
+    if bytes_eq name (codes "-") then lines_said (slice_split (λ byte. byte == 10) input)
+    else network_in name ∷ []
 word_said input item = []
 
 -- what all the words say, in their order, where `-` stands for the lines of `input`
-abbrev pub words_said : List ℕ → List Item → List Saying
+abbrev pub words_said : List ℕ → List Item → List (Option IpNetwork)
 words_said input items = flat_map (word_said input) items
 
 -- the network alone, or nothing if there is none
@@ -74,6 +63,6 @@ abbrev pub if_some : Option IpNetwork → List IpNetwork
 if_some None = []
 if_some (Some network) = network ∷ []
 
--- the networks that the texts name, in their order
-abbrev pub networks_in : List Saying → List IpNetwork
-networks_in all = flat_map (λ said. if_some said.network) all
+-- the networks that are there, in their order
+abbrev pub networks_in : List (Option IpNetwork) → List IpNetwork
+networks_in all = flat_map if_some all

@@ -3,15 +3,14 @@
 
 mod field;
 mod help;
-mod laws;
 mod number_texts;
 mod printing;
 mod rows;
 mod run;
 mod said;
+mod said_words;
 mod telling;
 mod value;
-mod words;
 mod zone;
 
 use crate::help::{PROGRAM, USAGE};

@@ -1,17 +1,18 @@
 //! A run of the program.
-ghost use Rattle.std.specs.Prelude.{◌≡◌, None, IfOk, IfErr, OnOk, OnErr, is_err, ◌||◌, [], true, string_bytes};
+ghost use Rattle.std.specs.Prelude.{◌≡◌, ◌⊎◌, IfOk, IfErr, OnOk, OnErr};
 ghost use Rattle.std.specs.List.{list_any};
-ghost use Rattle.lines.specs.Outputs.{Writes, FailsIn};
-ghost use Rattle.lists.specs.Bytes.{BytesStop};
+ghost use Rattle.std.specs.Option.{is_none};
+ghost use Rattle.lines.specs.Outputs.{Writes};
 ghost use Rattle.program.specs.Endings.{ending};
-ghost use Rattle.cidr_info.specs.Runs.{EndsAs, EndsReading, EndsAnswering, fault_of, in_fault, outer_of, is_within, all_within, is_refused, within_status, status_of, answer_text, IsInput, NoInput};
+ghost use Rattle.cidr_info.specs.Runs.{EndsAs, EndsReading, EndsSaid, LacksMemory, FailsWriting, are_right, is_outer_right, outer_of, is_within, all_within, within_status, status_of, answer_text, IsInput, NoInput};
+ghost use Rattle.cidr_info.specs.Words.{words_said};
 
 use crate::help::{HELP, PROGRAM, USAGE, VERSION};
 use crate::printing::put_infos;
 use crate::rows::{IN, JSON, NO_NETWORK, table};
 use crate::said::{Said, network_in};
+use crate::said_words::{reads_input, words_said};
 use crate::telling::{tell_input_fault, tell_refusals};
-use crate::words::{reads_input, words_said};
 use ipnetwork::{IpNetwork, laws};
 use lines::fault::RunFault;
 use lines::output::Output;
@@ -40,7 +41,7 @@ pub(crate) fn run<L: OpenLists, W: Write, E: Write>(
     output: &mut Output<'_, W>,
     errors: &mut Output<'_, E>,
 ) -> u8
-    ensures { EndsAs PROGRAM.now HELP.now VERSION.now USAGE.now (L.known lists.now) words.now
+    ensures { EndsAs HELP.now VERSION.now (L.known lists.now) words.now
         (ending output.old output.new errors.old errors.new result) }
 {
     let table = table();
@@ -58,7 +59,7 @@ pub(crate) fn run<L: OpenLists, W: Write, E: Write>(
 
 // Returns what is wrong with a command line: with its words, or else with the value of `--in`.
 fn fault_of<'a>(table: &Table<'_>, items: &[Item<'a>]) -> Option<Fault<'a>>
-    ensures { result ≡ fault_of table.now items.now }
+    ensures { is_none result ≡ are_right table.now items.now }
 {
     match operands_fault(table, items) {
         Some(fault) => Some(fault),
@@ -68,7 +69,7 @@ fn fault_of<'a>(table: &Table<'_>, items: &[Item<'a>]) -> Option<Fault<'a>>
 
 // Returns the fault of `--in`, if the option is given with a value that names no network.
 fn in_fault<'a>(items: &[Item<'a>]) -> Option<Fault<'a>>
-    ensures { result ≡ in_fault items.now }
+    ensures { is_none result ≡ is_outer_right items.now }
 {
     if is_given(items, IN) && outer_of(items).is_none() {
         let value = Text::new(value_of(items, IN));
@@ -133,8 +134,8 @@ fn answer<W: Write, E: Write>(
     output: &mut Output<'_, W>,
     errors: &mut Output<'_, E>,
 ) -> u8
-    ensures { EndsAnswering items.now input.now
-        (ending output.old output.new errors.old errors.new result) }
+    ensures { let end = ending output.old output.new errors.old errors.new result in
+        LacksMemory end ⊎ EndsSaid items.now (words_said input.now items.now) end }
 {
     let Ok(all) = words_said(alloc, items, input) else {
         return refuse_memory(PROGRAM, errors);
@@ -158,7 +159,7 @@ fn status_of(outer: Option<IpNetwork>, all: &[Said<'_>]) -> u8
 
 // Whether one of these texts names no network.
 fn is_refused(all: &[Said<'_>]) -> bool
-    ensures { result ≡ list_any is_refused all.now }
+    ensures { result ≡ list_any is_none all.now }
 {
     all.iter().any(|said| said.network().is_none())
 }
@@ -211,9 +212,8 @@ fn write_answer<W: Write>(
     output: &mut Output<'_, W>,
 ) -> Result<(), RunFault>
     ensures ok { OnOk result (Writes output.old output.new (answer_text items.now all.now)) }
-    ensures failed { output.new.failed ≡ (output.old.failed || is_err result) }
-    ensures beginning { OnErr result
-        (FailsIn output.old output.new (answer_text items.now all.now)) }
+    ensures err { OnErr result
+        (FailsWriting output.old output.new (answer_text items.now all.now)) }
 {
     if is_given(items, IN) {
         return output.finish();

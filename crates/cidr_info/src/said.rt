@@ -1,6 +1,6 @@
 //! A text that is expected to name a network.
 ghost use Rattle.std.specs.Prelude.{◌≡◌};
-ghost use Rattle.cidr_info.specs.Words.{network_in, said_of};
+ghost use Rattle.cidr_info.specs.Words.{network_in};
 
 use ipnetwork::{IpNetwork, laws};
 use std::marker::Model;
@@ -15,27 +15,21 @@ pub struct Said<'a> {
     network: Option<IpNetwork>,
 }
 
-// Contracts see the text as its bytes.
+// Contracts see the network alone: the line and the text are for what is reported.
 impl<'a> Model for Said<'a> {
-    ghost use Rattle.std.specs.Prelude.{◌≡◌};
-    ghost use Rattle.cidr_info.specs.Words.{Saying, network_in};
+    ghost use Rattle.std.specs.Prelude.{Option};
+    ghost use Rattle.ipnetwork.specs.declared.ip_network.IpNetwork.{IpNetwork};
 
-    ghost Value = { Saying };
+    ghost Value = { Option IpNetwork };
 
-    ghost view = { λ said. record {
-      line = said.line;
-      text = said.text.now;
-      network = said.network;
-    } };
-
-    ghost invariant = { λ said. said.network ≡ network_in said.text.now };
+    ghost view = { λ said. said.network };
 }
 
 impl<'a> Said<'a> {
     /// Creates a `Said` from the number of its line, which is 0 for a word of the command line, and
     /// its text.
     pub(crate) fn new(line: u64, text: &'a [u8]) -> Said<'a>
-        ensures { result ≡ said_of line text.now }
+        ensures { result ≡ network_in text.now }
     {
         Said {
             line,
@@ -45,23 +39,18 @@ impl<'a> Said<'a> {
     }
 
     /// Returns the number of its line, or 0 for a word of the command line.
-    pub(crate) fn line(&self) -> u64
-        ensures { result ≡ self.now.line }
-    {
+    pub(crate) fn line(&self) -> u64 {
         self.line
     }
 
     /// Returns the text.
-    pub(crate) fn text(&self) -> &'a [u8]
-        ensures value { result.now ≡ self.now.text }
-        ensures named { self.now.network ≡ network_in self.now.text }
-    {
+    pub(crate) fn text(&self) -> &'a [u8] {
         self.text
     }
 
     /// Returns the network that the text names, if it names one.
     pub(crate) fn network(&self) -> Option<IpNetwork>
-        ensures { result ≡ self.now.network }
+        ensures { result ≡ self.now }
     {
         self.network
     }

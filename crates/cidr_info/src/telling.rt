@@ -1,12 +1,7 @@
 //! Reports texts that name no network, and faults of standard input.
-ghost use Rattle.std.specs.Prelude.{◌≡◌, None};
-ghost use Rattle.program.specs.Messages.{Reports};
-ghost use Rattle.cidr_info.specs.Words.{network_in};
-ghost use Rattle.cidr_info.specs.Refusals.{refusal_text, if_refused, refusals_text, place_text, plain_text, cause_text, input_fault_text};
-
 use crate::help::PROGRAM;
 use crate::said::Said;
-use ipnetwork::{CidrFault, cause, laws};
+use ipnetwork::{CidrFault, cause};
 use lines::output::Output;
 use lists::{BytesFault, encoding_of};
 use program::log_fault::tell_fault_of;
@@ -15,29 +10,16 @@ use program::usage::tell_shown;
 use std::io::Write;
 
 /// Reports each of these texts that names no network.
-pub(crate) fn tell_refusals<E: Write>(all: &[Said<'_>], errors: &mut Output<'_, E>)
-    ensures { Reports errors.old errors.new (refusals_text all.now) }
-{
+pub(crate) fn tell_refusals<E: Write>(all: &[Said<'_>], errors: &mut Output<'_, E>) {
     for said in all {
-        tell_if_refused(said, errors);
-    }
-}
-
-// Reports a text if it names no network.
-fn tell_if_refused<E: Write>(said: &Said<'_>, errors: &mut Output<'_, E>)
-    ensures { Reports errors.old errors.new (if_refused said.now said.now.network) }
-{
-    match said.network() {
-        Some(_) => {}
-        None => tell_refusal(said, errors),
+        if said.network().is_none() {
+            tell_refusal(said, errors);
+        }
     }
 }
 
 // Reports a text that names no network.
-fn tell_refusal<E: Write>(said: &Said<'_>, errors: &mut Output<'_, E>)
-    requires { said.now.network ≡ None }
-    ensures { Reports errors.old errors.new (refusal_text said.now) }
-{
+fn tell_refusal<E: Write>(said: &Said<'_>, errors: &mut Output<'_, E>) {
     tell_of(PROGRAM, ": ", errors);
     tell_place(said, errors);
     tell(": refused ", errors);
@@ -47,9 +29,7 @@ fn tell_refusal<E: Write>(said: &Said<'_>, errors: &mut Output<'_, E>)
 
 // Writes where a text stands: the word, with control characters escaped, or `-` and the line
 // number.
-fn tell_place<E: Write>(said: &Said<'_>, errors: &mut Output<'_, E>)
-    ensures { Reports errors.old errors.new (place_text said.now) }
-{
+fn tell_place<E: Write>(said: &Said<'_>, errors: &mut Output<'_, E>) {
     let line = said.line();
     if line > 0 {
         tell("-:", errors);
@@ -61,10 +41,7 @@ fn tell_place<E: Write>(said: &Said<'_>, errors: &mut Output<'_, E>)
 
 // Returns the name of the encoding, if the text is not plain text, and else why it names no
 // network.
-fn cause_word(text: &[u8]) -> &'static str
-    requires { network_in text.now ≡ None }
-    ensures { result.now ≡ cause_text text.now }
-{
+fn cause_word(text: &[u8]) -> &'static str {
     match encoding_of(text) {
         Some(encoding) => encoding.text(),
         None => plain_word(text),
@@ -72,13 +49,7 @@ fn cause_word(text: &[u8]) -> &'static str
 }
 
 // Returns why a plain text names no network, in one word.
-fn plain_word(text: &[u8]) -> &'static str
-    requires { network_in text.now ≡ None }
-    ensures { result.now ≡ plain_text text.now }
-{
-    // These two calls do nothing: the proof of this body needs their laws.
-    laws::ip_network_reading_is_computed();
-    laws::ip_reading_is_computed();
+fn plain_word(text: &[u8]) -> &'static str {
     match cause(text) {
         Some(CidrFault::Format) => "format",
         Some(CidrFault::Prefix) => "prefix",
@@ -89,9 +60,7 @@ fn plain_word(text: &[u8]) -> &'static str
 }
 
 /// Reports why standard input was not read.
-pub(crate) fn tell_input_fault<E: Write>(fault: BytesFault, errors: &mut Output<'_, E>)
-    ensures { Reports errors.old errors.new (input_fault_text fault) }
-{
+pub(crate) fn tell_input_fault<E: Write>(fault: BytesFault, errors: &mut Output<'_, E>) {
     match fault {
         BytesFault::Open(cause) => tell_fault_of(PROGRAM, "-", cause.text(), errors),
         BytesFault::Read => tell_fault_of(PROGRAM, "-", ": cannot read\n", errors),

@@ -1,27 +1,16 @@
 -- How the lines of a list are taken, one after another.
-use Rattle.std.proofs.Common.{◌≡◌, ℕ, ◌≤◌, Bool, false, List, [], ◌∷◌, ◌++◌, length, take, refl, inr, sym, ap, subst, ◌∙◌, append_assoc, append-nil}
-use Rattle.std.specs.Prelude.{Some, Result, Ok, Err, OnOk, IfErr}
-use Rattle.std.specs.FinMap.{insert}
-use Rattle.ipnetwork_family.specs.Network.{Network, block_of}
-use Rattle.lists.specs.Entries.{ReadsEntry}
-use Rattle.lists.specs.declared.entry.Entry.{Entry}
+use Rattle.cidr_join.proofs.Words.{◌≡◌, ℕ, ◌≤◌, Bool, false, List, [], ◌∷◌, ◌++◌, length, take, refl, inr, sym, ap, subst, ◌∙◌, append_assoc, append-nil, Some, Result, Ok, Err, OnOk, IfErr, insert, Network, block_of, ReadsEntry, Entry, EntryFault, trimmed, is_skipped, entry_len, entry_part, EntryFails, Says, LineFaults, Values, SetsAll, IsGoodEntry, SetsEntry, EntryHasOne, IsRefusal, Keeps, TakesLine, LineFails, ListRules, Networks, RouteFault, Value}
 use Rattle.lists.specs.declared.entry.Entry.TheVariants as entries
-use Rattle.lists.specs.declared.entry.EntryFault.{EntryFault}
-use Rattle.cidr_join.specs.Entries.{trimmed, is_skipped, entry_len, entry_part, EntryFails, Says, LineFaults}
-use Rattle.cidr_join.specs.Routes.{Values, SetsAll, IsGoodEntry, SetsEntry, EntryHasOne, IsRefusal, Keeps}
-use Rattle.cidr_join.specs.Takes.{TakesLine, LineFails}
-use Rattle.cidr_join.specs.declared.list.ListRules.{ListRules}
-use Rattle.cidr_join.specs.declared.routes.Networks.{Networks}
 use Rattle.cidr_join.specs.declared.line.Cause.TheVariants as causes
-use Rattle.cidr_join.specs.declared.routes.RouteFault.{RouteFault}
 use Rattle.cidr_join.specs.declared.routes.RouteFault.TheVariants as routes
-use Rattle.cidr_join.specs.declared.value.Value.{Value}
 
 -- one more network got the value
-pub sets_more : (w : ℕ) (before between after : Values) (done : List Network) (n : Network) (value : Value) → SetsAll w before done value between
+pub sets_more : (w : ℕ) (before between after : Values) (done : List Network) (n : Network) (value : Value)
+    → SetsAll w before done value between
     → after ≡ insert between (block_of w n) value → SetsAll w before (done ++ n ∷ []) value after
 sets_more w before between after [] n value p q = q ∙ ap (λ (t : Values). insert t (block_of w n) value) p
-sets_more w before between after (first ∷ done) n value p q = sets_more w (insert before (block_of w first) value) between after done n value p q
+sets_more w before between after (first ∷ done) n value p q =
+    sets_more w (insert before (block_of w first) value) between after done n value p q
 
 -- some of the blocks of a range got the value, and `left` are left
 abbrev pub Set : ℕ → Values → Value → List Network → List Network → Values → Type 0
@@ -30,7 +19,8 @@ Set w before value all left now = (done : List Network) × (all ≡ done ++ left
 pub none_set : (w : ℕ) (before : Values) (value : Value) (all : List Network) → Set w before value all all before
 none_set w before value all = ([], refl, refl)
 
-pub one_more_set : (w : ℕ) (before between after : Values) (value : Value) (all was left : List Network) (n : Network) → Set w before value all was between
+pub one_more_set : (w : ℕ) (before between after : Values) (value : Value) (all was left : List Network) (n : Network)
+    → Set w before value all was between
     → was ≡ n ∷ left → after ≡ insert between (block_of w n) value → Set w before value all left after
 one_more_set w before between after value all was left n s e sets = (
   s.0 ++ n ∷ [],
@@ -38,7 +28,8 @@ one_more_set w before between after value all was left n s e sets = (
   sets_more w before between after s.0 n value s.2 sets,
 )
 
-pub all_set : (w : ℕ) (before after : Values) (value : Value) (all was : List Network) → Set w before value all was after → was ≡ [] → SetsAll w before all value after
+pub all_set : (w : ℕ) (before after : Values) (value : Value) (all was : List Network)
+    → Set w before value all was after → was ≡ [] → SetsAll w before all value after
 all_set w before after value all was s e =
     subst (λ (l : List Network). SetsAll w before l value after) (sym (s.1 ∙ ap (λ l. s.0 ++ l) e ∙ append-nil s.0)) s.2
 
@@ -46,13 +37,15 @@ all_set w before after value all was s e =
 both : Values → Values → Networks
 both v4 v6 = record { v4 = v4; v6 = v6 }
 
-pub kept_v4 : {T : Type 0} (result : Result T RouteFault) (old : Networks) (v4 : Values) → IfErr result (Keeps old.v4 v4) → IfErr result (Keeps old (record { v4 = v4; v6 = old.v6 }))
+pub kept_v4 : {T : Type 0} (result : Result T RouteFault) (old : Networks) (v4 : Values)
+    → IfErr result (Keeps old.v4 v4) → IfErr result (Keeps old (record { v4 = v4; v6 = old.v6 }))
 unfolding both
 kept_v4 (Ok done) old v4 h = tt
 kept_v4 (Err routes.OutOfMemory) old v4 h = tt
 kept_v4 (Err (routes.Refused cause)) old v4 h = ap (λ (t : Values). both t old.v6) h
 
-pub kept_v6 : {T : Type 0} (result : Result T RouteFault) (old : Networks) (v6 : Values) → IfErr result (Keeps old.v6 v6) → IfErr result (Keeps old (record { v4 = old.v4; v6 = v6 }))
+pub kept_v6 : {T : Type 0} (result : Result T RouteFault) (old : Networks) (v6 : Values)
+    → IfErr result (Keeps old.v6 v6) → IfErr result (Keeps old (record { v4 = old.v4; v6 = v6 }))
 unfolding both
 kept_v6 (Ok done) old v6 h = tt
 kept_v6 (Err routes.OutOfMemory) old v6 h = tt
@@ -73,18 +66,21 @@ good_entry text (entries.Network n) h = tt
 good_entry text (entries.Range first last) h = h.1.2
 
 -- a line that does not begin with a network or range
-pub entry_fails : (bare : Bool) (line text : List ℕ) (end : ℕ) (fault : EntryFault) → length line ≤ 1024 → text ≡ trimmed line → is_skipped text ≡ false → end ≡ entry_len text
+pub entry_fails : (bare : Bool) (line text : List ℕ) (end : ℕ) (fault : EntryFault) → length line ≤ 1024
+    → text ≡ trimmed line → is_skipped text ≡ false → end ≡ entry_len text
     → EntryFails (take end text) fault → LineFaults bare line (causes.Entry fault)
 entry_fails bare line text end fault short is some at h =
     let part : take end text ≡ entry_part (trimmed line) = ap (λ n. take n text) at ∙ ap entry_part is in
     ((short, sym (ap is_skipped is) ∙ some), subst (λ (p : List ℕ). EntryFails p fault) part h)
 
-pub line_set : {T E : Type 0} (result : Result T E) (rules : ListRules) (before after : Networks) (line : List ℕ) (entry : Entry) (value : Value) → Says rules.bare line entry value
+pub line_set : {T E : Type 0} (result : Result T E) (rules : ListRules) (before after : Networks) (line : List ℕ)
+    (entry : Entry) (value : Value) → Says rules.bare line entry value
     → OnOk result (SetsEntry rules.last_wins before entry value after) → OnOk result (TakesLine rules before line after)
 line_set (Ok done) rules before after line entry value says h = inr (entry, value, says, h)
 line_set (Err fault) rules before after line entry value says h = tt
 
-fault_has : (fault : RouteFault) (rules : ListRules) (before : Networks) (line : List ℕ) (entry : Entry) (value : Value) → Says rules.bare line entry value
+fault_has : (fault : RouteFault) (rules : ListRules) (before : Networks) (line : List ℕ) (entry : Entry) (value : Value)
+    → Says rules.bare line entry value
     → IsRefusal (EntryHasOne rules.last_wins before entry) fault → LineFails rules before line fault
 fault_has routes.OutOfMemory rules before line entry value says h = tt
 fault_has (routes.Refused (causes.Entry fault)) rules before line entry value says h = absurd h
@@ -92,7 +88,8 @@ fault_has (routes.Refused causes.Value) rules before line entry value says h = a
 fault_has (routes.Refused causes.Twice) rules before line entry value says h = (entry, value, says, h)
 fault_has (routes.Refused causes.Length) rules before line entry value says h = absurd h
 
-pub line_has : {T : Type 0} (result : Result T RouteFault) (rules : ListRules) (before : Networks) (line : List ℕ) (entry : Entry) (value : Value) → Says rules.bare line entry value
+pub line_has : {T : Type 0} (result : Result T RouteFault) (rules : ListRules) (before : Networks) (line : List ℕ)
+    (entry : Entry) (value : Value) → Says rules.bare line entry value
     → IfErr result (IsRefusal (EntryHasOne rules.last_wins before entry)) → IfErr result (LineFails rules before line)
 line_has (Ok done) rules before line entry value says h = tt
 line_has (Err fault) rules before line entry value says h = fault_has fault rules before line entry value says h

@@ -1,9 +1,8 @@
 -- What a line of a list says: a network or a range, followed by a value.
 use Rattle.std.specs.Prelude.{◌≡◌, ◌≢◌, ◌≤◌, ◌<◌, ◌==◌, ◌||◌, ◌&&◌, ◌+◌, ◌⊎◌, ℕ, Bool, true, false, not, List, [], ◌∷◌}
-use Rattle.std.specs.Prelude.{length, take, drop, Option, None, Some, Result, Ok, Err, if◌then◌else◌, codes}
+use Rattle.std.specs.Prelude.{length, take, drop, Option, None, Some, Result, Ok, Err, if◌then◌else◌}
 use Rattle.std.specs.List.{prefix_len}
 use Rattle.lists.specs.Entries.{ReadsEntry}
-use Rattle.lists.specs.Faults.{entry_fault_text}
 use Rattle.lists.specs.Lines.{trimmed_by}
 use Rattle.lists.specs.declared.entry.Entry.{Entry}
 use Rattle.lists.specs.declared.entry.EntryFault.{EntryFault}
@@ -105,10 +104,3 @@ abbrev pub ReadsRoute : Bool → List ℕ → Result (Option RouteEntry) Cause �
 ReadsRoute bare line (Ok None) = SaysNothing line
 ReadsRoute bare line (Ok (Some said)) = Says bare line said.entry said.value
 ReadsRoute bare line (Err cause) = LineFaults bare line cause
-
--- a cause in a few words
-abbrev pub cause_text : Cause → List ℕ
-cause_text (causes.Entry fault) = entry_fault_text fault
-cause_text causes.Value = codes "value: there is none"
-cause_text causes.Twice = codes "repetition"
-cause_text causes.Length = codes "length"

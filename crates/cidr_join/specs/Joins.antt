@@ -1,14 +1,19 @@
 -- What is printed for the lines of a log.
-use Rattle.std.specs.Prelude.{◌≡◌, ℕ, ◌||◌, Bool, false, List, [], ◌∷◌, ◌++◌, Option, None, Some, length, drop, codes}
-use Rattle.std.specs.Prelude.{option_map, if◌then◌else◌}
+use Rattle.std.specs.Prelude.{◌≡◌, ℕ, ◌||◌, ◌⊎◌, Bool, true, false, List, [], ◌∷◌, ◌++◌, Option, None, Some, length}
+use Rattle.std.specs.Prelude.{drop}
+use Rattle.std.specs.Prelude.{codes, nat_lt, option_map, if◌then◌else◌}
+use Rattle.std.specs.Option.{is_some}
 use Rattle.ipnetwork.specs.IpNetworkText.{ip_network_text}
 use Rattle.ipnetwork.specs.declared.ip_network.IpNetwork.{IpNetwork}
 use Rattle.line_addresses.specs.Areas.{part_of, picked_in}
-use Rattle.log_programs.specs.LogStats.{is_long}
+use Rattle.log_programs.specs.InTurn.{Ends, InTurn}
+use Rattle.log_programs.specs.LogReads.{OfLine}
+use Rattle.log_programs.specs.LogStats.{nothing, with_line, with_long}
 use Rattle.log_programs.specs.Unmapping.{asked_network}
 use Rattle.log_programs.specs.WithoutAddress.{is_dropped, is_stopped}
+use Rattle.log_programs.specs.declared.log_stats.LogStats.{LogStats}
 use Rattle.log_programs.specs.declared.without_address.WithoutAddress.{WithoutAddress}
-use Rattle.program.specs.LogLines.{LogLine, content, printed}
+use Rattle.program.specs.LogLines.{LogLine}
 use Rattle.cidr_join.specs.Asked.{network_of_found}
 use Rattle.cidr_join.specs.Groups.{block_in}
 use Rattle.cidr_join.specs.Routes.{IsLongestRoute, NoRouteHolds}
@@ -57,12 +62,13 @@ mark_of founds.Nothing = codes "-"
 abbrev pub shown_of : Bool → List ℕ → List ℕ → List ℕ → List ℕ
 shown_of last mark line text = if last then line ++ 9 ∷ (mark ++ drop (length line) text) else mark ++ 9 ∷ text
 
-abbrev pub output_of : Join → Found → LogLine → List ℕ
-output_of join found line = shown_of join.last (mark_of found) (content line) (printed line)
+-- a line, given without its end, is too long: it has more than 1,048,576 bytes
+abbrev pub is_long : List ℕ → Bool
+is_long line = nat_lt 1048576 (length line)
 
--- the network of a line of a log; a line of more than 1,048,576 bytes, not counting its end, has none
-abbrev pub asked_in : Join → LogLine → Option IpNetwork
-asked_in join line = if is_long line then None else network_in join (content line)
+-- the network of a line; one that is too long has none
+abbrev pub asked_in : Join → List ℕ → Option IpNetwork
+asked_in join line = if is_long line then None else network_in join line
 
 -- a line without an address ends the run, with `--bad stop`, or is left out, with `--bad drop`
 abbrev pub is_refused : WithoutAddress → Option IpNetwork → Bool
@@ -73,14 +79,40 @@ abbrev pub is_left_out : WithoutAddress → Option IpNetwork → Bool
 is_left_out bad None = is_dropped bad
 is_left_out bad (Some asked) = false
 
--- what is written for a line, given what was found for it: nothing if it is left out or too long
-abbrev pub shown_in : Join → Found → LogLine → List ℕ
-shown_in join found line = if is_long line || is_left_out join.bad (asked_in join line) then []
-    else output_of join found line
+-- what is written for a line, given what was found for it: nothing if it is left out or too long; `line` is the line
+-- without its end, `text` as it is printed
+abbrev pub shown_in : Join → Found → List ℕ → List ℕ → List ℕ
+shown_in join found line text = if is_long line || is_left_out join.bad (asked_in join line) then []
+    else shown_of join.last (mark_of found) line text
 
--- these lines have this output, and none of them ends the run
-abbrev pub Joins : Join → List LogLine → List ℕ → Type 0
-Joins join [] output = output ≡ []
-Joins join (line ∷ lines) output = (found : Found) × (others : List ℕ)
-    × (is_refused join.bad (asked_in join line) ≡ false) × Finds join (asked_in join line) found
-    × Joins join lines others × (output ≡ shown_in join found line ++ others)
+-- what is counted for a line with this network, or with none, if this was found for it: nothing if such lines are left
+-- out
+abbrev pub counted_for : Join → Option IpNetwork → Found → List (List ℕ)
+counted_for join asked found = if is_left_out join.bad asked then [] else mark_of found ∷ []
+
+abbrev pub counted_in : Join → Found → List ℕ → List ℕ → List (List ℕ)
+counted_in join found line text = counted_for join (asked_in join line) found
+
+-- the counts of the lines so far and of this one, which has an address, has none, or is too long
+abbrev pub seen_with : Join → LogStats → List ℕ → LogStats
+seen_with join seen line =
+    if is_long line then with_long seen else with_line seen (is_some (network_in join line))
+
+-- what the next line gives, by what a line gives for what was found for it (`of`), and the counts with it, or `None` if
+-- it ends the run; those before it have the counts `seen`
+abbrev pub GivesLine : {A : Type 0} → (Join → Found → List ℕ → List ℕ → List A) → Join → LogStats → List ℕ → List ℕ
+    → List A → Option LogStats → Type 0
+GivesLine of join seen line text given next =
+    ((is_refused join.bad (asked_in join line) ≡ true) × Ends None given next)
+    ⊎ ((is_refused join.bad (asked_in join line) ≡ false) × (found : Found) × Finds join (asked_in join line) found
+    × (given ≡ of join found line text) × (next ≡ Some (seen_with join seen line)))
+
+-- all lines, and all logs, are looked at
+abbrev pub never : {S : Type 0} → S → Bool
+never state = false
+
+-- what the lines of a log give, one after another, and their counts, or `None` if one ends the run. If a device failed
+-- (`cut`), the log may end before any line
+abbrev pub Gives : {A : Type 0} → (Join → Found → List ℕ → List ℕ → List A) → Join → Bool → List LogLine → List A
+    → Option LogStats → Type 0
+Gives of join cut lines all end = InTurn never (OfLine (GivesLine of join)) cut nothing lines all end

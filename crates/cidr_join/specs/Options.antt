@@ -36,26 +36,19 @@ networks = 18
 
 -- the options, in the order of their rows
 abbrev pub entries : List Entry
-entries = rows.shared
-    ++ long_flag (codes "--last") ∷ long_flag (codes "--last-wins") ∷ long_flag (codes "--network")
-    ∷ long_flag (codes "--tally")
-    ∷ long (codes "--group") kinds.Lengths true (codes "not N,M with N up to 32 and M up to 128")
-    ∷ long (codes "--bad") kinds.Rule true (codes "not drop, keep, stop or report")
-    ∷ long_flag (codes "--zero") ∷ long_flag (codes "--skip-bad") ∷ long_flag (codes "--networks")
-    ∷ rows.late_quiet ∷ []
+entries =
+    rows.shared ++ long_flag (codes "--last") ∷ long_flag (codes "--last-wins") ∷ long_flag (codes "--network")
+    ∷ long_flag (codes "--tally") ∷ long (codes "--group") kinds.Lengths true ∷ long (codes "--bad") kinds.Rule true
+    ∷ long_flag (codes "--zero") ∷ long_flag (codes "--skip-bad") ∷ long_flag (codes "--networks") ∷ rows.late_quiet
+    ∷ []
 
 -- the pairs of options that may not be given together: some options for where addresses are looked for, `--tally` with
--- `--last`, two `-f`, and `--group` with `-f` or an option about its list. If several pairs are given, the first is
--- reported
-abbrev pub pairs : List (ℕ × ℕ × List ℕ)
-pairs = rows.together
-    ++ (tally, last, codes "--last does not go with --tally")
-    ∷ (group, rows.list, codes "--group goes with none of -f, --network, --last-wins, --skip-bad and --zero")
-    ∷ (group, network, codes "--group goes with none of -f, --network, --last-wins, --skip-bad and --zero")
-    ∷ (group, last_wins, codes "--group goes with none of -f, --network, --last-wins, --skip-bad and --zero")
-    ∷ (group, zeros, codes "--group goes with none of -f, --network, --last-wins, --skip-bad and --zero")
-    ∷ (group, skips_bad, codes "--group goes with none of -f, --network, --last-wins, --skip-bad and --zero") ∷ []
+-- `--last`, two `-f`, and `--group` with `-f` or an option about its list
+abbrev pub pairs : List (ℕ × ℕ)
+pairs =
+    rows.together ++ (tally, last) ∷ (group, rows.list) ∷ (group, network) ∷ (group, last_wins) ∷ (group, zeros)
+    ∷ (group, skips_bad) ∷ []
 
 -- the table has these options and pairs, and requires `-f` or `--group`
 abbrev pub IsOptions : Table → Type 0
-IsOptions table = IsTable table entries pairs (rows.list ∷ group ∷ []) (codes "neither -f nor --group is given")
+IsOptions table = IsTable table entries pairs (rows.list ∷ group ∷ [])

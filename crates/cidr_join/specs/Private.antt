@@ -2,6 +2,4 @@
 pub mod Counting
 pub mod Listing
 pub mod Numbering
-pub mod Progress
-pub mod Runs
 pub mod TallyProgress

@@ -1,11 +1,17 @@
 -- The counts of texts.
-use Rattle.std.specs.Prelude.{◌≡◌, ℕ, ◌-◌, ◌^◌, min, List, [], ◌∷◌, ◌++◌, if◌then◌else◌, decimal}
+use Rattle.std.specs.Prelude.{◌≡◌, ℕ, ◌-◌, ◌^◌, min, List, [], ◌∷◌, ◌++◌, map, if◌then◌else◌, decimal}
 use Rattle.std.specs.Cmp.Lexicographic.{slice_cmp}
+use Rattle.std.specs.FinMap.{entries}
 use Rattle.std.specs.List.{count_by, sum_by}
 use Rattle.std.specs.List.Sorted.{IsSorted}
 use Rattle.std.specs.Ordering.{nat_cmp, ordering_then}
 use Rattle.std.specs.declared.cmp.Ordering.{Ordering}
 use Rattle.std.specs.Str.{bytes_eq}
+use Rattle.ipnetwork.specs.IpNetworkText.{ip_network_text}
+use Rattle.ipnetwork.specs.declared.ip_network.IpNetwork.TheVariants as families
+use Rattle.cidr_join.specs.declared.answers.Answers.{Answers}
+use Rattle.cidr_join.specs.declared.answers.Answers.TheVariants as answers
+use Rattle.cidr_join.specs.declared.join.Join.{Join}
 
 -- how often a text is among these, at most 2^64 - 1
 abbrev pub count_of : List ℕ → List (List ℕ) → ℕ
@@ -41,3 +47,16 @@ row_text row = decimal row.count ++ 9 ∷ (row.text ++ 10 ∷ [])
 abbrev pub rows_text : List Row → List ℕ
 rows_text [] = []
 rows_text (row ∷ rows) = row_text row ++ rows_text rows
+
+-- the texts that the list can give addresses, whether or not a line has one: the value of each of its networks, or the
+-- network
+abbrev pub named : Answers → List (List ℕ)
+named (answers.Values routes) = map (λ e. e.1.bytes.now) (entries routes.v4)
+    ++ map (λ e. e.1.bytes.now) (entries routes.v6)
+named (answers.Networks routes) = map (λ e. ip_network_text (families.V4 e.0)) (entries routes.v4)
+    ++ map (λ e. ip_network_text (families.V6 e.0)) (entries routes.v6)
+named (answers.Blocks lengths) = []
+
+-- the texts that a tally has even if they were never counted: with `--zero`, those
+abbrev pub named_in : Join → List (List ℕ)
+named_in join = if join.zeros then named join.answers else []

@@ -1,7 +1,7 @@
 //! What a line of a list says.
 ghost use Rattle.std.specs.Prelude.{◌≡◌, ◌≤◌, length, Some, Ok, IfOk, IfErr};
 ghost use Rattle.lists.specs.Entries.{ReadsEntry};
-ghost use Rattle.cidr_join.specs.Entries.{ReadsRoute, EntryFails, is_skipped, tail_len, dash_len, entry_len, value_part, behind_comma, cause_text};
+ghost use Rattle.cidr_join.specs.Entries.{ReadsRoute, EntryFails, is_skipped, tail_len, dash_len, entry_len, value_part, behind_comma};
 
 use crate::value::Value;
 use lists::{ByteKind, Entry, EntryFault, LINE_MAX, front_len, read_entry, trim};
@@ -21,9 +21,7 @@ pub enum Cause {
 
 impl Cause {
     /// Returns the cause in a few words.
-    pub(crate) fn text(self) -> &'static str
-        ensures { result.now ≡ cause_text self }
-    {
+    pub(crate) fn text(self) -> &'static str {
         match self {
             Cause::Entry(fault) => fault.text(),
             Cause::Value => "value: there is none",

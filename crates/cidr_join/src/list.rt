@@ -1,11 +1,9 @@
 //! Takes the networks of lists with their values.
-ghost use Rattle.std.specs.Prelude.{◌≡◌, ◌==◌, ◌≤◌, ◌<◌, ◌+◌, ◌-◌, ◌^◌, min, IfErr, OnOk};
+ghost use Rattle.std.specs.Prelude.{◌≡◌, ◌==◌, ◌<◌, ◌+◌, ◌^◌, ◌∷◌, [], IfErr, OnOk};
 ghost use Rattle.std.specs.List.{slice_split};
-ghost use Rattle.program.specs.Messages.{Reports};
-ghost use Rattle.cidr_join.specs.Reported.{refused_line};
 ghost use Rattle.cidr_join.specs.Routes.{IsGoodEntry, SetsEntry, EntryHasOne, IsRefusal, Keeps};
-ghost use Rattle.cidr_join.specs.Takes.{TakesLine, LineFails, left_out};
-ghost use Rattle.cidr_join.specs.Private.Listing.{nothing_taken, EndsList, ListsNext, FailsNext};
+ghost use Rattle.cidr_join.specs.Takes.{TakesLine};
+ghost use Rattle.cidr_join.specs.Private.Listing.{nothing_taken, left_out, EndsLines, GoesOn, LineFails};
 
 use crate::help::PROGRAM;
 use crate::line::{Cause, read_route};
@@ -66,9 +64,7 @@ impl<'a> Listing<'a> {
     }
 
     /// Returns how many of the refused lines that were left out are not reported.
-    pub(crate) fn more(&self) -> u64
-        ensures { result ≡ self.now.skipped - 100 }
-    {
+    pub(crate) fn more(&self) -> u64 {
         self.skipped.saturating_sub(TOLD_MAX)
     }
 
@@ -88,8 +84,10 @@ pub(crate) fn take_list<'a, E: Write>(
     rules: ListRules,
     errors: &mut Output<'_, E>,
 ) -> Result<(), TakeFault>
-    ensures { EndsList name.now rules (slice_split (λ b. b == 10) text.now)
-        errors.old errors.new listing.old listing.new result }
+    ensures ok { OnOk result (GoesOn rules listing.old.networks listing.new.networks
+        (slice_split (λ b. b == 10) text.now)) }
+    ensures err { IfErr result (λ fault. EndsLines rules listing.old.networks
+        (slice_split (λ b. b == 10) text.now) fault.fault) }
 {
     listing.lines = 0;
     let mut at = 0;
@@ -111,10 +109,10 @@ fn take_next<'a, E: Write>(
     errors: &mut Output<'_, E>,
 ) -> Result<(), TakeFault>
     requires { listing.old.lines + 1 < 2 ^ 64 }
-    ensures ok { OnOk result (ListsNext name.now rules line.now errors.old errors.new
-        listing.old listing.new) }
-    ensures err { IfErr result (FailsNext rules line.now errors.old errors.new
-        listing.old listing.new) }
+    ensures ok { OnOk result
+        (GoesOn rules listing.old.networks listing.new.networks (line.now ∷ [])) }
+    ensures err { IfErr result
+        (λ fault. EndsLines rules listing.old.networks (line.now ∷ []) fault.fault) }
     ensures lines { listing.new.lines ≡ listing.old.lines + 1 }
 {
     let lines = listing.lines;
@@ -149,12 +147,7 @@ fn skip<E: Write>(
     lines: usize,
     cause: Cause,
     errors: &mut Output<'_, E>,
-)
-    ensures counts { skipped.new ≡ min (skipped.old + 1) (2 ^ 64 - 1) }
-    ensures first { skipped.old < 100
-        → Reports errors.old errors.new (refused_line (name.now, lines, cause)) }
-    ensures others { 100 ≤ skipped.old → errors.new ≡ errors.old }
-{
+) {
     *skipped = skipped.saturating_add(1);
     if *skipped <= TOLD_MAX {
         tell_line(PROGRAM, name, lines as u64, cause.text(), errors);

@@ -1,12 +1,10 @@
 //! Joins the lines of a log to a list.
-ghost use Rattle.std.specs.Prelude.{◌≡◌, ◌||◌, ◌≤◌, ◌++◌, length, OnOk, IfErr};
+ghost use Rattle.std.specs.Prelude.{◌≤◌, ◌++◌, length, OnOk, IfErr};
 ghost use Rattle.lines.specs.Watched.{device_of, has_failed};
-ghost use Rattle.cidr_join.specs.Stands.{stand, begun};
-ghost use Rattle.cidr_join.specs.Stops.{Ends, Stops};
-ghost use Rattle.cidr_join.specs.Private.Progress.{JoinsLine, LineStops};
-ghost use Rattle.log_programs.specs.LogEnds.{EndsOrStops};
-ghost use Rattle.program.specs.LogFaults.{ended_by_write};
+ghost use Rattle.log_programs.specs.LogReads.{PrintsLog, StopsLine, TakesLine};
+ghost use Rattle.log_programs.specs.LogStats.{nothing};
 ghost use Rattle.program.specs.LogLines.{feed_behind};
+ghost use Rattle.cidr_join.specs.Joins.{GivesLine, never, shown_in};
 
 use crate::join::Join;
 use crate::printing::print_line;
@@ -32,10 +30,9 @@ pub fn join_log<R: Read, W: Write>(
     seen: &mut LogStats,
 ) -> Result<(), LogFault>
     requires room { 1048578 ≤ length buffer.old }
-    ensures { EndsOrStops (λ _. Ends join.now) (Stops join.now) result
-        (R.remaining (device_of reader.old)) (R.remaining (device_of reader.new))
-        (has_failed reader.old) (has_failed reader.new) output.old output.new
-        (begun (stand output.old seen.old)) (stand output.new seen.new) }
+    ensures { PrintsLog never (GivesLine shown_in join.now) nothing result
+        (R.remaining (device_of reader.old)) (has_failed reader.new)
+        output.old output.new seen.new }
 {
     *seen = LogStats::new();
     let stops = join.bad.is_stopped();
@@ -71,12 +68,12 @@ fn join_line<W: Write>(
     output: &mut Output<'_, W>,
     seen: &mut LogStats,
 ) -> Result<(), LogFault>
-    requires { length line.now ≤ length whole.now }
-    ensures ok { OnOk result (JoinsLine join.now line.now (whole.now ++ feed_behind end)
-        (stand output.old seen.old) (stand output.new seen.new)) }
-    ensures err { IfErr result (LineStops join.now line.now (whole.now ++ feed_behind end)
-        output.new.failed (stand output.old seen.old) (stand output.new seen.new)) }
-    ensures writer_failed { output.new.failed ≡ (output.old.failed || ended_by_write result) }
+    requires whole { length line.now ≤ length whole.now }
+    requires short { length line.now ≤ 1048576 }
+    ensures ok { OnOk result (TakesLine (GivesLine shown_in join.now) line.now
+        (whole.now ++ feed_behind end) output.old seen.old output.new seen.new) }
+    ensures err { IfErr result (StopsLine (GivesLine shown_in join.now) line.now
+        (whole.now ++ feed_behind end) output.old seen.old output.new) }
 {
     let asked = join.network_in(line);
     if join.refuses(asked) {

@@ -1,25 +1,28 @@
 //! Joins the logs of a run in turn.
-ghost use Rattle.std.specs.Prelude.{◌≤◌, ◌∷◌, [], length, map, MatchOption};
+ghost use Rattle.std.specs.Prelude.{◌≤◌, ◌||◌, Bool, length, map, MatchOption};
 ghost use Rattle.std.specs.String.{string_bytes};
+ghost use Rattle.log_programs.specs.LogsInTurn.{StopsLog, TakesLog};
 ghost use Rattle.program.specs.Endings.{ending};
-ghost use Rattle.cidr_join.specs.Runs.{StopsAtLog};
-ghost use Rattle.cidr_join.specs.Private.Runs.{JoinsNames};
+ghost use Rattle.cidr_join.specs.Joins.{shown_in};
+ghost use Rattle.cidr_join.specs.Logs.{GivesOne};
+ghost use Rattle.cidr_join.specs.Runs.{JoinsLogs};
 
 use crate::help::PROGRAM;
 use crate::join::Join;
 use crate::log::join_log;
-use crate::missing::either;
+use crate::missing::{either, status};
 use crate::telling::tell_unaddressed;
 use lines::output::Output;
 use lists::{OpenLists, open_input};
 use log_programs::log_stats::LogStats;
 use log_programs::telling::{is_missed, tell_closed, tell_seen};
+use program::ending::{FAILED, end};
 use program::log_fault::stop;
 use std::io::Write;
 
-/// Joins the logs with these names in turn, and returns whether one could not be opened or a line
-/// of one is missed. If one that was opened is not joined to its end, the cause is reported and
-/// `None` is returned. The reports about the lines of each log are written after it.
+/// Joins the logs with these names in turn, and returns the exit status. If one that was opened is
+/// not joined to its end, the cause is reported, and no other is read. The reports about the lines
+/// of each log are written after it.
 pub(crate) fn join_logs<L: OpenLists, W: Write, E: Write>(
     join: &Join<'_>,
     lists: &L,
@@ -27,27 +30,26 @@ pub(crate) fn join_logs<L: OpenLists, W: Write, E: Write>(
     buffer: &mut [u8],
     output: &mut Output<'_, W>,
     errors: &mut Output<'_, E>,
-) -> Option<bool>
+) -> u8
     requires { 1048578 ≤ length buffer.old }
-    ensures { MatchOption result
-        (StopsAtLog join.now (L.known lists.now) (map string_bytes files.now)
-        (ending output.old output.new errors.old errors.new 2))
-        (λ missed. JoinsNames join.now (L.known lists.now) (map string_bytes files.now) missed
-        output.old output.new errors.old errors.new) }
+    ensures { JoinsLogs join.now (L.known lists.now) (map string_bytes files.now)
+        (ending output.old output.new errors.new errors.new result) }
 {
     let mut missed = false;
     for file in files {
         let name = file.as_str();
         let Some(more) = join_one(join, lists, name, buffer, output, errors) else {
-            return None;
+            return FAILED;
         };
         missed = either(missed, more);
     }
-    Some(missed)
+    let written = output.finish();
+    end(PROGRAM, written, status(missed), errors)
 }
 
 // Opens the log with this name and joins its lines, and returns whether it could not be opened or
-// a line is missed, as `join_logs` does.
+// a line is missed. If it was opened and is not joined to its end, the cause is reported, and
+// `None` is returned.
 fn join_one<L: OpenLists, W: Write, E: Write>(
     join: &Join<'_>,
     lists: &L,
@@ -58,10 +60,10 @@ fn join_one<L: OpenLists, W: Write, E: Write>(
 ) -> Option<bool>
     requires { 1048578 ≤ length buffer.old }
     ensures { MatchOption result
-        (StopsAtLog join.now (L.known lists.now) (name.now ∷ [])
-        (ending output.old output.new errors.old errors.new 2))
-        (λ missed. JoinsNames join.now (L.known lists.now) (name.now ∷ []) missed
-        output.old output.new errors.old errors.new) }
+        ((missed : Bool) → StopsLog (GivesOne shown_in join.now (L.known lists.now))
+        (L.known lists.now) name.now output.old missed output.new)
+        (λ more. (missed : Bool) → TakesLog (GivesOne shown_in join.now (L.known lists.now))
+        name.now output.old missed output.new (missed || more)) }
 {
     let mut log = match open_input(lists, name) {
         Ok(log) => log,

@@ -7,7 +7,6 @@ mod counts;
 mod found;
 mod help;
 mod join;
-mod laws;
 mod lengths;
 mod line;
 mod list;

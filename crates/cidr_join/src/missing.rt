@@ -1,6 +1,6 @@
 //! Whether a log or a line was missed.
-ghost use Rattle.std.specs.Prelude.{◌≡◌, ◌||◌};
-ghost use Rattle.cidr_join.specs.TallyRuns.{status_by};
+ghost use Rattle.std.specs.Prelude.{◌≡◌, ◌||◌, Some};
+ghost use Rattle.cidr_join.specs.Runs.{status_by};
 
 use program::ending::FAILED;
 
@@ -13,7 +13,7 @@ pub(crate) fn either(first: bool, second: bool) -> bool
 
 /// Returns the exit status; `missed` tells whether a log or a line was missed.
 pub(crate) fn status(missed: bool) -> u8
-    ensures { result ≡ status_by missed }
+    ensures { result ≡ status_by (Some missed) }
 {
     if missed { FAILED } else { 0 }
 }

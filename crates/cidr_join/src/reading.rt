@@ -1,11 +1,11 @@
 //! Reads the lists of a run, and takes their lines.
-ghost use Rattle.std.specs.Prelude.{◌≡◌, ◌∷◌, ◌++◌, [], List, ℕ, map, IfOk, IfErr, MatchOption};
+ghost use Rattle.std.specs.Prelude.{◌≡◌, ◌⊎◌, ◌∷◌, ◌++◌, [], List, ℕ, map, None, Some, IfOk, IfErr, MatchOption};
 ghost use Rattle.lists.specs.Bytes.{BytesStop};
-ghost use Rattle.program.specs.Messages.{Reports};
-ghost use Rattle.cidr_join.specs.Lists.{AreRead, IsRead, NamedText, StopsAtList, TakesLists, list_by, list_in, lists_of, named_text};
-ghost use Rattle.cidr_join.specs.Private.Listing.{TellsUnread};
-ghost use Rattle.cidr_join.specs.Reported.{refused_text};
-ghost use Rattle.cidr_join.specs.Takes.{Listed, nothing_listed};
+ghost use Rattle.cidr_join.specs.Lists.{AreRead, IsRead, lines_of, list_by, list_in, list_text, lists_of};
+ghost use Rattle.cidr_join.specs.Routes.{no_networks};
+ghost use Rattle.cidr_join.specs.Runs.{LacksMemory};
+ghost use Rattle.cidr_join.specs.Takes.{Takes};
+ghost use Rattle.cidr_join.specs.Private.Listing.{Unread};
 
 use crate::help::PROGRAM;
 use crate::list::{ListRules, Listing, take_list};
@@ -42,9 +42,8 @@ pub(crate) fn read_lists<'a, L: OpenLists, E: Write>(
     errors: &mut Output<'_, E>,
 ) -> Option<Vec<ReadList<'a>>>
     ensures { MatchOption result
-        (TellsUnread (L.known lists.now) (lists_of items.now) errors.old errors.new)
-        (λ read. AreRead (L.known lists.now) (lists_of items.now) (map named_text read.items)
-        × (errors.new ≡ errors.old)) }
+        (Unread (L.known lists.now) (lists_of items.now) errors.new)
+        (λ read. AreRead (L.known lists.now) (lists_of items.now) (map list_text read.items)) }
 {
     let mut read = Vec::new(alloc);
     let mut at = 0;
@@ -67,10 +66,9 @@ fn read_item<'a, L: OpenLists, E: Write>(
     errors: &mut Output<'_, E>,
 ) -> Option<()>
     ensures { MatchOption result
-        (TellsUnread (L.known lists.now) (list_in item.now) errors.old errors.new)
-        (λ _. (more : List NamedText) × AreRead (L.known lists.now) (list_in item.now) more
-        × (map named_text read.new.items ≡ map named_text read.old.items ++ more)
-        × (errors.new ≡ errors.old)) }
+        (Unread (L.known lists.now) (list_in item.now) errors.new)
+        (λ _. (more : List (List ℕ)) × AreRead (L.known lists.now) (list_in item.now) more
+        × (map list_text read.new.items ≡ map list_text read.old.items ++ more)) }
 {
     let Some(name) = list_in(item) else {
         return Some(());
@@ -132,12 +130,10 @@ pub(crate) fn take_lists<'a, E: Write>(
     errors: &mut Output<'_, E>,
 ) -> Option<Networks<'a>>
     ensures { MatchOption result
-        ((told : List ℕ) × StopsAtList rules nothing_listed (map named_text lists.now) told
-        × Reports errors.old errors.new told)
-        (λ networks. (listed : Listed)
-        × TakesLists rules nothing_listed (map named_text lists.now) listed
-        × (networks ≡ listed.networks)
-        × Reports errors.old errors.new (refused_text listed.refused)) }
+        (Takes rules no_networks (lines_of (map list_text lists.now)) None
+        ⊎ LacksMemory errors.new)
+        (λ networks. Takes rules no_networks (lines_of (map list_text lists.now))
+        (Some networks)) }
 {
     let mut listing = Listing::new(alloc);
     let mut at = 0;

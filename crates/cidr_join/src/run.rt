@@ -1,10 +1,10 @@
 //! The run that the program makes.
-ghost use Rattle.std.specs.Prelude.{◌≡◌, map};
+ghost use Rattle.std.specs.Prelude.{◌≡◌, ◌⊎◌, map};
 ghost use Rattle.std.specs.String.{string_bytes};
 ghost use Rattle.options.specs.Given.{inputs_of};
 ghost use Rattle.program.specs.Endings.{ending};
-ghost use Rattle.cidr_join.specs.Lists.{named_text};
-ghost use Rattle.cidr_join.specs.Runs.{EndsRequest, EndsFiles, EndsAs, EndsFinding, EndsJoining, answers_by, join_of, lacks_tally, lengths_of, rules_of};
+ghost use Rattle.cidr_join.specs.Lists.{list_text};
+ghost use Rattle.cidr_join.specs.Runs.{EndsRequest, EndsFiles, EndsAs, EndsAsked, EndsJoining, RunsOut, answers_by, join_of, lacks_tally, lengths_of, rules_of};
 
 use crate::answers::Answers;
 use crate::help::{HELP, PROGRAM, USAGE, VERSION};
@@ -12,7 +12,6 @@ use crate::join::Join;
 use crate::lengths::Lengths;
 use crate::list::ListRules;
 use crate::logs::join_logs;
-use crate::missing::status;
 use crate::reading::{ReadList, read_lists, take_lists};
 use crate::routes::Routes;
 use crate::rows::{BAD, GROUP, LAST, LAST_WINS, NETWORK, NETWORKS, SKIPS_BAD, TALLY, ZERO, table};
@@ -28,7 +27,7 @@ use options::given::{inputs_of, is_given, value_of};
 use options::items::Item;
 use options::refusing::refuse;
 use options::values::lengths_in;
-use program::ending::{FAILED, end};
+use program::ending::FAILED;
 use program::log_reader::BUFFER_LEN;
 use program::memory::refuse_memory;
 use std::alloc::Global;
@@ -42,7 +41,7 @@ pub(crate) fn run<L: OpenLists, W: Write, E: Write>(
     output: &mut Output<'_, W>,
     errors: &mut Output<'_, E>,
 ) -> u8
-    ensures { EndsAs PROGRAM.now HELP.now VERSION.now USAGE.now (L.known lists.now) words.now
+    ensures { EndsAs PROGRAM.now HELP.now VERSION.now (L.known lists.now) words.now
         (ending output.old output.new errors.old errors.new result) }
 {
     let about = About {
@@ -65,8 +64,8 @@ fn join<L: OpenLists, W: Write, E: Write>(
     output: &mut Output<'_, W>,
     errors: &mut Output<'_, E>,
 ) -> u8
-    ensures { EndsRequest PROGRAM.now USAGE.now (L.known lists.now) items.now
-        (ending output.old output.new errors.old errors.new result) }
+    ensures { EndsRequest (L.known lists.now) items.now
+        (ending output.old output.new errors.new errors.new result) }
 {
     if lacks_tally(items) {
         let fault = about(Subject::CommandLine, "--zero goes only with --tally");
@@ -95,8 +94,9 @@ fn join_files<L: OpenLists, W: Write, E: Write>(
     errors: &mut Output<'_, E>,
 ) -> u8
     requires { map string_bytes files.now ≡ inputs_of items.now }
-    ensures { EndsFiles (L.known lists.now) items.now
-        (ending output.old output.new errors.old errors.new result) }
+    ensures { RunsOut (ending output.old output.new errors.new errors.new result)
+        ⊎ EndsFiles (L.known lists.now) items.now
+        (ending output.old output.new errors.new errors.new result) }
 {
     if let Some(lengths) = lengths_of(items) {
         let answers = Answers::Blocks(lengths);
@@ -129,8 +129,9 @@ fn join_to<L: OpenLists, W: Write, E: Write>(
     errors: &mut Output<'_, E>,
 ) -> u8
     requires { map string_bytes files.now ≡ inputs_of items.now }
-    ensures { EndsJoining (L.known lists.now) items.now (map named_text read.now)
-        (ending output.old output.new errors.old errors.new result) }
+    ensures { RunsOut (ending output.old output.new errors.new errors.new result)
+        ⊎ EndsJoining (L.known lists.now) items.now (map list_text read.now)
+        (ending output.old output.new errors.new errors.new result) }
 {
     let Some(networks) = take_lists(alloc, read, rules_of(items), errors) else {
         return FAILED;
@@ -176,8 +177,9 @@ fn join_by<'a, L: OpenLists, W: Write, E: Write>(
     errors: &mut Output<'_, E>,
 ) -> u8
     requires { map string_bytes files.now ≡ inputs_of items.now }
-    ensures { EndsFinding (L.known lists.now) items.now answers.entry
-        (ending output.old output.new errors.old errors.new result) }
+    ensures { RunsOut (ending output.old output.new errors.new errors.new result)
+        ⊎ EndsAsked (L.known lists.now) items.now answers.entry
+        (ending output.old output.new errors.new errors.new result) }
 {
     let Ok(mut buffer) = vec![in alloc; 0u8; BUFFER_LEN] else {
         return refuse_memory(PROGRAM, errors);
@@ -187,11 +189,7 @@ fn join_by<'a, L: OpenLists, W: Write, E: Write>(
     if is_given(items, TALLY) {
         return tally_logs(alloc, &join, lists, buffer, files, output, errors);
     }
-    let Some(missed) = join_logs(&join, lists, files, buffer, output, errors) else {
-        return FAILED;
-    };
-    let written = output.finish();
-    end(PROGRAM, written, status(missed), errors)
+    join_logs(&join, lists, files, buffer, output, errors)
 }
 
 // Returns what decides what is printed for a line.

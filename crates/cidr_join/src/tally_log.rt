@@ -1,10 +1,9 @@
 //! Counts what is found for the lines of a log.
-ghost use Rattle.std.specs.Prelude.{◌≡◌, ◌||◌, ◌&&◌, ◌≤◌, not, length, OnOk, IfErr};
+ghost use Rattle.std.specs.Prelude.{◌≡◌, ◌&&◌, ◌≤◌, not, length, OnOk, IfErr};
 ghost use Rattle.log_programs.specs.WithoutAddress.{is_dropped};
 ghost use Rattle.lines.specs.Watched.{device_of, has_failed};
 ghost use Rattle.cidr_join.specs.Private.Numbering.{IsNumbering};
-ghost use Rattle.cidr_join.specs.Private.TallyProgress.{CountsAsked, CountsLine, CountsLines, LineNotCounted, StopsCounting, ended_by_read, tally_fault};
-ghost use Rattle.program.specs.LogReadings.{ReadsAll};
+ghost use Rattle.cidr_join.specs.Private.TallyProgress.{CountsAsked, CountsLine, CountsLog, LineNotCounted};
 
 use crate::counts::Counts;
 use crate::found::Found;
@@ -19,16 +18,8 @@ use program::log_reader::{LogReader, NextLogLine};
 use std::alloc::{AllocError, Global};
 use std::io::Read;
 
-/// Why the lines of a log are not counted to its end.
-#[derive(Clone, Copy, Debug, PartialEq, Eq)]
-pub enum TallyFault {
-    /// A fault of the log.
-    Log(LogFault),
-    /// Out of memory.
-    OutOfMemory,
-}
-
-/// Counts the lines of a log, and what is found for their addresses or networks.
+/// Counts the lines of a log, and what is found for their addresses or networks. Only memory is
+/// written to, so `LogFault::Write` says that memory ran out.
 ///
 /// A line that is too long counts as one without an address. If such lines end the run, one does so
 /// even before its end was read. The counts in `seen` start anew.
@@ -40,21 +31,12 @@ pub(crate) fn tally_log<R: Read>(
     reader: &mut Watched<R>,
     counts: &mut Counts,
     seen: &mut LogStats,
-) -> Result<(), TallyFault>
+) -> Result<(), LogFault>
     requires room { 1048578 ≤ length buffer.old }
     requires numbered { IsNumbering join.now.answers numbered.now }
-    ensures ok { OnOk result
-        (ReadsAll (CountsLines numbered.now.founds.items join.now counts.old counts.new seen.new)
-        (R.remaining (device_of reader.old))
-        (R.remaining (device_of reader.new))) }
-    ensures err { IfErr result
-        (StopsCounting join.now
-        (CountsLines numbered.now.founds.items join.now counts.old counts.new seen.new)
-        (R.remaining (device_of reader.old))
-        (R.remaining (device_of reader.new))
-        (has_failed reader.new)) }
-    ensures reader_failed { has_failed reader.new
-        ≡ (has_failed reader.old || ended_by_read result) }
+    ensures { CountsLog numbered.now.founds.items result join.now
+        (R.remaining (device_of reader.old)) (has_failed reader.new)
+        counts.old counts.new seen.new }
 {
     // Nothing is put into it, so nothing is written before a read.
     let mut slice = [0; 1];
@@ -72,30 +54,16 @@ pub(crate) fn tally_log<R: Read>(
             }
             Ok(NextLogLine::TooLong) => {
                 if stops {
-                    return Err(TallyFault::Log(LogFault::Length));
+                    return Err(LogFault::Length);
                 }
                 seen.add_long();
                 if let Err(_) = count_asked(alloc, join, numbered, None, counts) {
-                    return Err(TallyFault::OutOfMemory);
+                    return Err(LogFault::Write);
                 }
             }
             Ok(NextLogLine::End) => return Ok(()),
-            Err(fault) => return Err(tally_fault(fault)),
+            Err(fault) => return Err(fault),
         }
-    }
-}
-
-// Returns the fault of a log as a fault of counting: a write to memory fails only if memory runs
-// out.
-fn tally_fault(fault: LogFault) -> TallyFault
-    ensures { result ≡ tally_fault fault }
-{
-    match fault {
-        LogFault::Read => TallyFault::Log(LogFault::Read),
-        LogFault::Write => TallyFault::OutOfMemory,
-        LogFault::Address => TallyFault::Log(LogFault::Address),
-        LogFault::Length => TallyFault::Log(LogFault::Length),
-        LogFault::Endless => TallyFault::Log(LogFault::Endless),
     }
 }
 
@@ -107,22 +75,22 @@ fn count_line(
     line: &[u8],
     counts: &mut Counts,
     seen: &mut LogStats,
-) -> Result<(), TallyFault>
-    requires { IsNumbering join.now.answers numbered.now }
+) -> Result<(), LogFault>
+    requires numbered { IsNumbering join.now.answers numbered.now }
+    requires short { length line.now ≤ 1048576 }
     ensures ok { OnOk result
         (CountsLine numbered.now.founds.items join.now line.now counts.old counts.new
         seen.old seen.new) }
-    ensures err { IfErr result (LineNotCounted join.now line.now counts.old counts.new
-        seen.old seen.new) }
+    ensures err { IfErr result (LineNotCounted join.now line.now seen.old) }
 {
     let asked = join.network_in(line);
     if join.refuses(asked) {
-        return Err(TallyFault::Log(LogFault::Address));
+        return Err(LogFault::Address);
     }
     seen.add(asked.is_some());
     match count_asked(alloc, join, numbered, asked, counts) {
         Ok(()) => Ok(()),
-        Err(_) => Err(TallyFault::OutOfMemory),
+        Err(_) => Err(LogFault::Write),
     }
 }
 

@@ -1,14 +1,13 @@
 //! Counts what is found for the lines of the logs of a run, and prints the counts.
-ghost use Rattle.std.specs.Prelude.{◌≡◌, ◌≤◌, ◌++◌, ◌∷◌, ◌||◌, [], length, map, MatchOption, OnOk, OnErr, is_err};
+ghost use Rattle.std.specs.Prelude.{◌≡◌, ◌≤◌, ◌++◌, ◌⊎◌, ◌||◌, [], length, map, MatchOption, OnOk, OnErr, is_err};
 ghost use Rattle.lines.specs.Outputs.{FailsIn, Writes};
 ghost use Rattle.program.specs.Endings.{ending};
-ghost use Rattle.program.specs.Messages.{Reports};
 ghost use Rattle.std.specs.String.{string_bytes};
 ghost use Rattle.cidr_join.specs.Tallies.{row_text, rows_text};
-ghost use Rattle.cidr_join.specs.TallyRuns.{EndsTally};
+ghost use Rattle.cidr_join.specs.Runs.{EndsTally, RunsOut};
 ghost use Rattle.cidr_join.specs.Private.Counting.{row_of};
 ghost use Rattle.cidr_join.specs.Private.Numbering.{IsNumbering};
-ghost use Rattle.cidr_join.specs.Private.TallyProgress.{CountsNames, TellsStop, tally_fault_text};
+ghost use Rattle.cidr_join.specs.Private.TallyProgress.{CountsName, CountsNames, StopsCounting, StopsTally, TellsUncounted};
 ghost use Rattle.program.specs.Putting.{PutsOrFails};
 
 use crate::counts::Counts;
@@ -16,7 +15,7 @@ use crate::help::PROGRAM;
 use crate::join::Join;
 use crate::missing::{either, status};
 use crate::tally::Row;
-use crate::tally_log::{TallyFault, tally_log};
+use crate::tally_log::tally_log;
 use crate::telling::tell_unaddressed;
 use crate::value_ids::ValueIds;
 use lines::fault::RunFault;
@@ -26,7 +25,7 @@ use log_programs::log_stats::LogStats;
 use log_programs::telling::{is_missed, tell_closed, tell_seen};
 use log_programs::without_address::WithoutAddress;
 use program::ending::{FAILED, end};
-use program::log_fault::tell_log_fault;
+use program::log_fault::{LogFault, tell_log_fault};
 use program::memory::refuse_memory;
 use program::messages::{number_text, tell_of};
 use program::putting::put_both;
@@ -45,8 +44,9 @@ pub(crate) fn tally_logs<L: OpenLists, W: Write, E: Write>(
     errors: &mut Output<'_, E>,
 ) -> u8
     requires { 1048578 ≤ length buffer.old }
-    ensures { EndsTally join.now (L.known lists.now) (map string_bytes files.now)
-        (ending output.old output.new errors.old errors.new result) }
+    ensures { RunsOut (ending output.old output.new errors.new errors.new result)
+        ⊎ EndsTally join.now (L.known lists.now) (map string_bytes files.now)
+        (ending output.old output.new errors.new errors.new result) }
 {
     let Ok(numbered) = ValueIds::of(alloc, &join.answers) else {
         return refuse_memory(PROGRAM, errors);
@@ -90,9 +90,9 @@ fn tally_each<L: OpenLists, E: Write>(
     requires room { 1048578 ≤ length buffer.old }
     requires numbered { IsNumbering join.now.answers numbered.now }
     ensures { MatchOption result
-        (TellsStop join.now (L.known lists.now) (map string_bytes files.now) errors.old errors.new)
+        (StopsTally join.now (L.known lists.now) (map string_bytes files.now) errors.new)
         (λ missed. CountsNames numbered.now.founds.items join.now (L.known lists.now)
-        (map string_bytes files.now) missed counts.old counts.new errors.old errors.new) }
+        (map string_bytes files.now) [] missed counts.old counts.new) }
 {
     let mut missed = false;
     for file in files {
@@ -121,9 +121,9 @@ fn tally_one<L: OpenLists, E: Write>(
     requires numbered { IsNumbering join.now.answers numbered.now }
     requires room { 1048578 ≤ length buffer.old }
     ensures { MatchOption result
-        (TellsStop join.now (L.known lists.now) (name.now ∷ []) errors.old errors.new)
-        (λ missed. CountsNames numbered.now.founds.items join.now (L.known lists.now)
-        (name.now ∷ []) missed counts.old counts.new errors.old errors.new) }
+        (StopsCounting join.now (L.known lists.now) name.now errors.new)
+        (λ more. CountsName numbered.now.founds.items join.now (L.known lists.now) name.now more
+        counts.old counts.new) }
 {
     let mut log = match open_list(lists, name) {
         Ok(log) => log,
@@ -152,18 +152,18 @@ fn tally_one<L: OpenLists, E: Write>(
 fn tell_stop<E: Write>(
     bad: WithoutAddress,
     name: &str,
-    fault: TallyFault,
+    fault: LogFault,
     seen: &LogStats,
     errors: &mut Output<'_, E>,
 )
-    ensures { Reports errors.old errors.new (tally_fault_text bad name.now seen.now fault) }
+    ensures { TellsUncounted fault errors.new }
 {
     match fault {
-        TallyFault::Log(fault) => {
+        LogFault::Write => tell_of(PROGRAM, ": out of memory\n", errors),
+        _ => {
             tell_seen(PROGRAM, name, bad, seen, errors);
             tell_log_fault(PROGRAM, name, fault, seen.lines, errors);
         }
-        TallyFault::OutOfMemory => tell_of(PROGRAM, ": out of memory\n", errors),
     }
 }
 

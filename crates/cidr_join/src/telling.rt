@@ -1,7 +1,5 @@
 //! Messages on the error writer. If writing one fails, nothing else changes.
-ghost use Rattle.program.specs.Messages.{Reports};
-ghost use Rattle.cidr_join.specs.Addressed.{lacking_by};
-ghost use Rattle.cidr_join.specs.Reported.{bytes_fault_text, take_fault_text};
+ghost use Rattle.cidr_join.specs.Private.Listing.{TellsUnread, TellsUntaken};
 
 use crate::help::PROGRAM;
 use crate::join::Join;
@@ -17,7 +15,7 @@ use std::io::Write;
 
 /// Reports why the list with this name was not read.
 pub(crate) fn tell_bytes_fault<E: Write>(name: &str, fault: BytesFault, errors: &mut Output<'_, E>)
-    ensures { Reports errors.old errors.new (bytes_fault_text name.now fault) }
+    ensures { TellsUnread fault errors.new }
 {
     match fault {
         BytesFault::Open(cause) => tell_fault_of(PROGRAM, name, cause.text(), errors),
@@ -36,17 +34,14 @@ pub(crate) fn tell_unaddressed<E: Write>(
     name: &str,
     seen: &LogStats,
     errors: &mut Output<'_, E>,
-)
-    ensures { Reports errors.old errors.new
-        (lacking_by join.now.area name.now seen.now.lines seen.now.is_addressed) }
-{
+) {
     let (lines, is_addressed) = (seen.lines, seen.is_addressed);
     tell_lacking(PROGRAM, &join.area, name, lines, is_addressed, errors);
 }
 
 /// Reports why the list with this name was not taken to its end.
 pub(crate) fn tell_take_fault<E: Write>(name: &str, fault: TakeFault, errors: &mut Output<'_, E>)
-    ensures { Reports errors.old errors.new (take_fault_text name.now fault) }
+    ensures { TellsUntaken fault.fault errors.new }
 {
     match fault.fault {
         RouteFault::OutOfMemory => tell_of(PROGRAM, ": out of memory\n", errors),

@@ -1,13 +1,8 @@
 -- Values at which a wrong definition of a strict check's findings would show. Each of these computes.
-use Rattle.std.proofs.Common.{◌≡◌, ℕ, List, ◌∷◌, [], true, false, refl}
-use Rattle.std.specs.Prelude.{codes, map, String, Some}
-use Rattle.std.specs.Fmt.{digits}
+use Rattle.cidr_merge.proofs.Words.{◌≡◌, ℕ, List, ◌∷◌, [], true, false, refl, codes, String, Some, digits, V4, has_host_bits, host_findings, Listed, pair_text, repetitions}
+use Rattle.std.specs.Prelude.{map}
 use Rattle.ipnetwork.specs.declared.ip_network.IpNetwork.TheVariants as networks
-use Rattle.ipnetwork_addr.specs.declared.ip.IpAddr.TheVariants.{V4}
 use Rattle.lists.specs.declared.entry.Entry.TheVariants.{Network}
-use Rattle.cidr_merge.specs.Findings.{has_host_bits, host_findings}
-use Rattle.cidr_merge.specs.Overlaps.{Listed, pair_text}
-use Rattle.cidr_merge.specs.Repetitions.{repetitions}
 
 -- the entry with these IPv4 addresses, on this line
 abbrev pub entry : ℕ → ℕ → ℕ → Listed
@@ -48,7 +43,8 @@ the_only_address = refl
 
 -- for IPv6, ::1/0 and 2001:db8::1/64 have host bits, and ::/0 and ::1/128 have none
 pub of_ipv6 : map (λ n. has_host_bits (Some (Network (networks.V6 n))))
-    (record { address = 1; prefix = 0 } ∷ record { address = 0x20010db8000000000000000000000001; prefix = 64 } ∷ record { address = 0; prefix = 0 }
+    (record { address = 1; prefix = 0 } ∷ record { address = 0x20010db8000000000000000000000001; prefix = 64 }
+    ∷ record { address = 0; prefix = 0 }
     ∷ record { address = 1; prefix = 128 } ∷ []) ≡ true ∷ true ∷ false ∷ false ∷ []
 of_ipv6 = refl
 

@@ -1,10 +1,5 @@
 -- The networks into which a network is split.
-use Rattle.std.proofs.Common.{◌≡◌, ◌≤◌, ℕ, refl}
-use Rattle.std.specs.Prelude.{nat_le}
-use Rattle.std.proofs.lemmas.Bool.{le-leb, and_from}
-use Rattle.ipnetwork_family.specs.Network.{Network}
-use Rattle.ipnetwork_blocks.specs.Subnets.{subnets_of}
-use Rattle.cidr_merge.specs.Pieces.{pieces}
+use Rattle.cidr_merge.proofs.Words.{◌≡◌, ◌≤◌, ℕ, refl, nat_le, le-leb, and_from, Network, subnets_of, pieces}
 
 -- a network that is split has the subnets of that length
 pub cut_into : (w number : ℕ) (block : Network) → block.prefix ≤ number → number ≤ w

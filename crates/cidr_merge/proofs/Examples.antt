@@ -1,41 +1,7 @@
 -- Values at which a wrong definition would show. Each of these computes.
-use Rattle.std.proofs.Common.{◌≡◌, ℕ, List, ◌∷◌, [], true, false, refl, map}
-use Rattle.std.specs.Prelude.{codes, String, Some, None}
-use Rattle.std.specs.Option.{is_some}
-use Rattle.std.specs.Fmt.{digits}
-use Rattle.std.specs.String.{string_bytes}
-use Rattle.ipnetwork_family.specs.Network.{Network}
-use Rattle.ipnetwork_family.specs.Family.{v4_family}
-use Rattle.ipnetwork_blocks.specs.Aggregate.{InUnion}
-use Rattle.lists.specs.declared.encoding.Encoding.TheVariants.{Nul}
-use Rattle.lists.specs.declared.entry.EntryFault.TheVariants.{Address, Encoding, Prefix}
-use Rattle.lists.specs.declared.fault.LineFault.TheVariants.{Entry}
-use Rattle.program.specs.Reported.{in_list, refusals_text}
-use Rattle.std.specs.List.{flat_map}
-use Rattle.options.specs.Faults.{pair_fault}
-use Rattle.options.specs.Items.{free_items}
+use Rattle.cidr_merge.proofs.Words.{◌≡◌, ◌++◌, ℕ, List, ◌∷◌, [], true, false, refl, map, filter, codes, String, Some, None, is_some, digits, Network, v4_family, InUnion, flat_map, range_with_len, pair_fault, free_items, Row, rows_of, pairs_of, is, lists_of, text_in, IsLeft, IsLeftOfSecond, AreBoth, merged, merged_ranges, block_line, range_line, are_wrong_files, are_wrong_sides, files_among, takes, form_called, form_of, most_in, shape_of, prefix_in, entries, pairs, Names, is_set_name, usual_names, before_dashes, behind_dashes, task_called, answer_status, Union, Common, Minus, Differ, Blocks, Ranges, Counts, Exported, Csv, Sets, First, Second}
 use Rattle.options.specs.declared.items.Item.TheVariants as says
-use Rattle.options.specs.declared.table.Row.{Row}
-use Rattle.options.proofs.Tables.{rows_of, pairs_of}
-use Rattle.program.specs.Words.{is}
-use Rattle.cidr_merge.specs.NamedLists.{lists_of, text_in}
-use Rattle.cidr_merge.specs.Answers.{IsLeft, IsLeftOfSecond, AreBoth, merged, merged_ranges}
-use Rattle.cidr_merge.specs.Answers.{block_line, range_line}
-use Rattle.cidr_merge.specs.Faults.{files_among, files_fault, takes}
-use Rattle.cidr_merge.specs.Forms.{form_of, most_in, shape_of, prefix_in}
-use Rattle.cidr_merge.specs.Reductions.{others_text}
-use Rattle.cidr_merge.specs.Options.{entries, pairs}
-use Rattle.cidr_merge.specs.SetNames.{Names, usual_names}
-use Rattle.cidr_merge.specs.Sides.{before_dashes, behind_dashes}
-use Rattle.cidr_merge.specs.SoughtLines.{other_cause}
-use Rattle.cidr_merge.specs.Tasks.{task_called}
-use Rattle.cidr_merge.specs.Runs.{answer_status}
-use Rattle.cidr_merge.specs.declared.command_line.Operation.TheVariants.{Union, Common, Minus}
-use Rattle.cidr_merge.specs.declared.command_line.Operation.TheVariants.{Differ}
-use Rattle.cidr_merge.specs.declared.command_line.Form.TheVariants.{Blocks, Ranges, Counts, Exported}
-use Rattle.cidr_merge.specs.declared.exports.Export.TheVariants.{Csv}
-use Rattle.cidr_merge.specs.declared.reading.Sets.{Sets}
-use Rattle.cidr_merge.specs.declared.merge_join.Side.TheVariants.{First, Second}
+use Rattle.cidr_merge.specs.declared.exports.Export.TheVariants as exports
 use Rattle.cidr_merge.specs.declared.shapes.Shape.TheVariants as shapes
 use Rattle.cidr_merge.specs.declared.tasks.Task.TheVariants as tasks
 
@@ -136,36 +102,41 @@ pub skipped_lines : (answer_status Differ true one none ≡ 3)
     × (answer_status Differ true none none ≡ 3) × (answer_status Union true one none ≡ 3)
 skipped_lines = (refl, refl, refl)
 
--- ---- what is reported
-
-pub a_refused_line : {Z : Type 0} (union list : String Z) → string_bytes list ≡ codes "a.txt"
-    → refusals_text (codes "cidr_merge") (union ∷ list ∷ []) in_list (record {
-      kept = record {
-        list = 1;
-        line =
-            7;
-        fault = Entry Prefix;
-      } ∷ [];
-      more = 0;
-    }) ≡ codes "cidr_merge: a.txt:7: refused prefix\n"
-unfolding digits
-a_refused_line union list e = rw e
-
-pub causes_of_other_texts : map other_cause (codes "::g" ∷ (0 ∷ []) ∷ []) ≡ Address ∷ Encoding Nul ∷ []
-causes_of_other_texts = refl
-
 -- ---- the command line
 
 abbrev pub rows : List Row
 rows = rows_of entries
 
-pub tasks_called : map task_called (codes "differ" ∷ codes "Union" ∷ codes "list" ∷ codes "overlap" ∷ [] ∷ [])
-    ≡ Some (tasks.Merge Differ) ∷ None ∷ Some tasks.List ∷ None ∷ None ∷ []
+-- the ten words that name a task, and words that are close to one
+pub tasks_called : map task_called (codes "union" ∷ codes "common" ∷ codes "minus" ∷ codes "differ" ∷ codes "list"
+    ∷ codes "split" ∷ codes "reduce" ∷ codes "check" ∷ codes "overlaps" ∷ codes "find" ∷ [])
+    ≡ map Some (tasks.Merge Union ∷ tasks.Merge Common ∷ tasks.Merge Minus ∷ tasks.Merge Differ ∷ tasks.List
+    ∷ tasks.Split
+    ∷ tasks.Reduce ∷ tasks.Check ∷ tasks.Overlaps ∷ tasks.Find ∷ [])
 tasks_called = refl
 
+pub no_tasks : map task_called (codes "Union" ∷ codes "diff" ∷ codes "COMMON" ∷ codes "overlap" ∷ codes "lists"
+    ∷ codes "union " ∷ codes "--check" ∷ [] ∷ []) ≡ None ∷ None ∷ None ∷ None ∷ None ∷ None ∷ None ∷ None ∷ []
+no_tasks = refl
+
+-- the nine words that name a form, and words that are close to one
+pub forms_called : map form_called (codes "plain" ∷ codes "range" ∷ codes "netmask" ∷ codes "wildcard" ∷ codes "csv"
+    ∷ codes "nft" ∷ codes "ipset" ∷ codes "json" ∷ codes "addresses" ∷ [])
+    ≡ Some Blocks ∷ Some Ranges ∷ map (λ export. Some (Exported export)) (exports.Netmask ∷ exports.Wildcard
+    ∷ exports.Csv
+    ∷ exports.Nft ∷ exports.Ipset ∷ exports.Json ∷ exports.Addresses ∷ [])
+forms_called = refl
+
+pub no_forms : map form_called (codes "ranges" ∷ codes "JSON" ∷ codes "address" ∷ codes "count"
+    ∷ codes "csv," ∷ [] ∷ [])
+    ≡ None ∷ None ∷ None ∷ None ∷ None ∷ None ∷ []
+no_forms = refl
+
 -- the items of each word by itself; `--format` by itself has none, since its value is the next word
-pub what_words_say : map (free_items rows) (codes "--skip-bad" ∷ codes "--format" ∷ codes "--format=csv" ∷ codes "-x" ∷ codes "-" ∷ codes "a" ∷ [] ∷ [])
-    ≡ (says.Flag 3 ∷ []) ∷ [] ∷ (says.Joined 2 (codes "csv") (codes "--format=csv") ∷ []) ∷ (says.Unknown (codes "-x") ∷ []) ∷ (says.File (codes "-") ∷ [])
+pub what_words_say : map (free_items rows) (codes "--skip-bad" ∷ codes "--format" ∷ codes "--format=csv" ∷ codes "-x"
+    ∷ codes "-" ∷ codes "a" ∷ [] ∷ [])
+    ≡ (says.Flag 3 ∷ []) ∷ [] ∷ (says.Joined 2 (codes "csv") (codes "--format=csv") ∷ [])
+    ∷ (says.Unknown (codes "-x") ∷ []) ∷ (says.File (codes "-") ∷ [])
     ∷ (says.File (codes "a") ∷ []) ∷ (says.File [] ∷ []) ∷ []
 what_words_say = refl
 
@@ -174,62 +145,81 @@ pub what_lists : lists_of (flat_map (free_items rows) (codes "a" ∷ codes "-ex"
     ≡ codes "a" ∷ codes "-e x" ∷ codes "-" ∷ []
 what_lists = refl
 
-pub what_texts : map text_in (codes "-e 10.0.0.0/8" ∷ codes "-e " ∷ codes "-" ∷ codes "-e" ∷ codes "-f x" ∷ codes "./-e x" ∷ [])
+pub what_texts : map text_in (codes "-e 10.0.0.0/8" ∷ codes "-e " ∷ codes "-" ∷ codes "-e" ∷ codes "-f x"
+    ∷ codes "./-e x" ∷ [])
     ≡ Some (codes "10.0.0.0/8") ∷ Some [] ∷ None ∷ None ∷ None ∷ None ∷ []
 what_texts = refl
 
 -- a path that begins with a dot and standard input are valid names; standard input twice and an empty name are not
-pub wrong_names : map (λ files. is_some (files_fault files)) ((codes "./-x" ∷ codes "-" ∷ []) ∷ (codes "-" ∷ codes "a" ∷ codes "-" ∷ []) ∷ (codes "a" ∷ [] ∷ []) ∷ [] ∷ [])
-    ≡ false ∷ true ∷ true ∷ false ∷ []
+pub wrong_names : map are_wrong_files ((codes "./-x" ∷ codes "-" ∷ []) ∷ (codes "-" ∷ codes "a" ∷ codes "-" ∷ [])
+    ∷ (codes "a" ∷ [] ∷ []) ∷ [] ∷ []) ≡ false ∷ true ∷ true ∷ false ∷ []
 wrong_names = refl
+
+-- of one side: a `--`, no FILE; of two: no `--`, two of them, nothing before or after it
+pub wrong_sides : map (λ task. are_wrong_sides task 0 1 0 ∷ are_wrong_sides task 1 1 1 ∷ are_wrong_sides task 0 0 0
+    ∷ are_wrong_sides task 2 1 1 ∷ are_wrong_sides task 1 0 1 ∷ are_wrong_sides task 1 1 0 ∷ [])
+    (tasks.Merge Union ∷ tasks.Merge Minus ∷ tasks.List ∷ tasks.Find ∷ tasks.Overlaps ∷ [])
+    ≡ (false ∷ true ∷ true ∷ true ∷ true ∷ true ∷ []) ∷ (true ∷ false ∷ true ∷ true ∷ true ∷ true ∷ [])
+    ∷ (false ∷ true ∷ true ∷ true ∷ true ∷ true ∷ []) ∷ (true ∷ false ∷ true ∷ true ∷ true ∷ true ∷ [])
+    ∷ (false ∷ true ∷ true ∷ true ∷ true ∷ true ∷ []) ∷ []
+wrong_sides = refl
 
 -- the words before the `--` of a `find` name no files
 pub no_files : (files_among tasks.Find 2 (codes "-" ∷ [] ∷ codes "-" ∷ []) ≡ codes "-" ∷ [])
     × (files_among tasks.Check 2 (codes "-" ∷ [] ∷ codes "-" ∷ []) ≡ codes "-" ∷ [] ∷ codes "-" ∷ [])
 no_files = (refl, refl)
 
--- which of `-e`, `--ranges`, `--skip-bad`, `--strict`, `--line-prefix`, `--prefix`, `--from` and `--most` each task
--- takes
-pub options_of_tasks : map (λ task. map (takes task) (12 ∷ 0 ∷ 3 ∷ 5 ∷ 8 ∷ 10 ∷ 11 ∷ 13 ∷ [])) (tasks.Merge Differ ∷ tasks.List ∷ tasks.Split ∷ tasks.Reduce ∷ tasks.Check ∷ tasks.Overlaps ∷ tasks.Find ∷ [])
-    ≡ (true ∷ true ∷ true ∷ true ∷ true ∷ false ∷ false ∷ false ∷ [])
-    ∷ (true ∷ true ∷ true ∷ true ∷ true ∷ false ∷ false ∷ false ∷ [])
-    ∷ (true ∷ false ∷ true ∷ true ∷ true ∷ true ∷ false ∷ false ∷ [])
-    ∷ (true ∷ true ∷ true ∷ true ∷ true ∷ false ∷ false ∷ true ∷ [])
-    ∷ (true ∷ false ∷ false ∷ true ∷ false ∷ false ∷ false ∷ false ∷ [])
-    ∷ (true ∷ false ∷ false ∷ false ∷ false ∷ false ∷ false ∷ false ∷ [])
-    ∷ (true ∷ false ∷ false ∷ false ∷ false ∷ false ∷ true ∷ false ∷ []) ∷ []
+-- the options that each task takes, by their rows: `--prefix` is row 10, `--from` 11, `-e` 12, `--most` 13, `--maxelem`
+-- 14; rows 15 to 17 are `--help`, `--version` and `--quiet`
+pub options_of_tasks : map (λ task. filter (takes task) (range_with_len 0 18)) (tasks.Merge Union ∷ tasks.Merge Differ
+    ∷ tasks.List ∷ tasks.Split ∷ tasks.Reduce ∷ tasks.Check ∷ tasks.Overlaps ∷ tasks.Find ∷ [])
+    ≡ (range_with_len 0 10 ++ 12 ∷ 14 ∷ []) ∷ (range_with_len 0 10 ++ 12 ∷ 14 ∷ [])
+    ∷ (range_with_len 0 10 ++ 12 ∷ 14 ∷ [])
+    ∷ (3 ∷ 4 ∷ 5 ∷ 8 ∷ 9 ∷ 10 ∷ 12 ∷ []) ∷ (range_with_len 0 10 ++ 12 ∷ 13 ∷ 14 ∷ [])
+    ∷ (5 ∷ 12 ∷ []) ∷ (12 ∷ []) ∷ (11 ∷ 12 ∷ []) ∷ []
 options_of_tasks = refl
+
+-- of all bytes, those that a set's name may begin with, and those that it may have after its first
+pub first_bytes_of_names : filter (λ byte. is_set_name (byte ∷ codes "x")) (range_with_len 0 256)
+    ≡ range_with_len 65 26 ++ range_with_len 97 26
+first_bytes_of_names = refl
+
+pub other_bytes_of_names : filter (λ byte. is_set_name (codes "x" ++ byte ∷ [])) (range_with_len 0 256)
+    ≡ codes "-." ++ range_with_len 48 10 ++ range_with_len 65 26 ++ codes "_" ++ range_with_len 97 26
+other_bytes_of_names = refl
 
 -- two output forms, the same one twice, `--format` given twice, also without a value, and two prefix lengths
 pub ways_to_print : map (λ items. is_some (pair_fault items (pairs_of pairs)))
-    ((says.Flag 0 ∷ says.Flag 1 ∷ []) ∷ (says.Flag 1 ∷ says.Flag 1 ∷ []) ∷ (says.Value 2 (codes "csv") ∷ []) ∷ (says.Value 2 (codes "csv") ∷ says.Lacks 2 ∷ [])
+    ((says.Flag 0 ∷ says.Flag 1 ∷ []) ∷ (says.Flag 1 ∷ says.Flag 1 ∷ []) ∷ (says.Value 2 (codes "csv") ∷ [])
+    ∷ (says.Value 2 (codes "csv") ∷ says.Lacks 2 ∷ [])
     ∷ (says.Value 2 (codes "csv") ∷ says.Flag 1 ∷ []) ∷ (says.Value 2 (codes "csv") ∷ says.Flag 0 ∷ [])
-    ∷ (says.Value 10 (codes "8") ∷ says.Joined 10 (codes "9") (codes "--prefix=9") ∷ []) ∷ []) ≡ true ∷ false ∷ false ∷ true ∷ true ∷ true ∷ true ∷ []
+    ∷ (says.Value 10 (codes "8") ∷ says.Joined 10 (codes "9") (codes "--prefix=9") ∷ []) ∷ []) ≡ true ∷ false ∷ false
+    ∷ true ∷ true ∷ true ∷ true ∷ []
 ways_to_print = refl
 
-pub forms_said : map (form_of Blocks) ((says.Flag 3 ∷ says.Flag 1 ∷ []) ∷ (says.Flag 3 ∷ says.Value 2 (codes "csv") ∷ []) ∷ [] ∷ (says.Flag 0 ∷ []) ∷ [])
+pub forms_said : map (form_of Blocks) ((says.Flag 3 ∷ says.Flag 1 ∷ [])
+    ∷ (says.Flag 3 ∷ says.Value 2 (codes "csv") ∷ []) ∷ [] ∷ (says.Flag 0 ∷ []) ∷ [])
     ≡ Counts ∷ Exported Csv ∷ Blocks ∷ Ranges ∷ []
 forms_said = refl
 
 pub usual_form : form_of (Exported Csv) (says.Flag 3 ∷ []) ≡ Exported Csv
 usual_form = refl
 
-pub shapes_said : map shape_of ((says.Flag 4 ∷ []) ∷ (says.Flag 4 ∷ says.Flag 5 ∷ []) ∷ (says.Flag 3 ∷ []) ∷ []) ≡ shapes.Json ∷ shapes.StrictJson ∷ shapes.Lines ∷ []
+pub shapes_said : map shape_of ((says.Flag 4 ∷ []) ∷ (says.Flag 4 ∷ says.Flag 5 ∷ []) ∷ (says.Flag 3 ∷ []) ∷ [])
+    ≡ shapes.Json ∷ shapes.StrictJson ∷ shapes.Lines ∷ []
 shapes_said = refl
 
 -- a prefix length may have a `+` before it, and leading zeros
-pub prefix_lengths : map prefix_in (codes "24" ∷ codes "+024" ∷ codes "128" ∷ codes "129" ∷ codes "++8" ∷ codes "+" ∷ [] ∷ codes "-1" ∷ codes "8 " ∷ [])
+pub prefix_lengths : map prefix_in (codes "24" ∷ codes "+024" ∷ codes "128" ∷ codes "129" ∷ codes "++8" ∷ codes "+" ∷ []
+    ∷ codes "-1" ∷ codes "8 " ∷ [])
     ≡ Some 24 ∷ Some 24 ∷ Some 128 ∷ None ∷ None ∷ None ∷ None ∷ None ∷ None ∷ []
 prefix_lengths = refl
 
 -- a number of networks may have leading zeros, and is not 0
-pub numbers_of_networks : map most_in (codes "07" ∷ codes "1" ∷ codes "0" ∷ codes "00" ∷ codes "1k" ∷ codes "+1" ∷ [] ∷ [])
+pub numbers_of_networks : map most_in (codes "07" ∷ codes "1" ∷ codes "0" ∷ codes "00" ∷ codes "1k"
+    ∷ codes "+1" ∷ [] ∷ [])
     ≡ Some 7 ∷ Some 1 ∷ None ∷ None ∷ None ∷ None ∷ None ∷ []
 numbers_of_networks = refl
-
-pub others_are_told : others_text (codes "cidr_merge") 512 7 ≡ codes "cidr_merge: 512 other addresses of IPv4, 7 of IPv6\n"
-unfolding digits
-others_are_told = refl
 
 -- the sides are split at the first `--`, which belongs to neither
 pub two_sides : {Z : Type 0} (list dashes other : String Z)

@@ -1,11 +1,6 @@
 -- Whole exports of small lists. Each of these computes.
-use Rattle.std.proofs.Common.{◌≡◌, ℕ, List, [], ◌∷◌, ◌++◌, true, false, map, refl, codes}
-use Rattle.std.specs.Fmt.{digits}
-use Rattle.ipnetwork_family.specs.Network.{Network, count_up}
-use Rattle.cidr_merge.specs.Exports.{export_text}
-use Rattle.cidr_merge.specs.SetNames.{Names, usual_names, is_set_name, is_limit}
-use Rattle.cidr_merge.specs.declared.exports.Export.TheVariants.{Netmask, Wildcard, Csv, Nft, Ipset}
-use Rattle.cidr_merge.specs.declared.exports.Export.TheVariants.{Json, Addresses}
+use Rattle.cidr_merge.proofs.Words.{◌≡◌, ℕ, List, [], ◌∷◌, ◌++◌, true, false, map, refl, digits, Network, count_up, export_text, Names, usual_names, is_set_name, is_limit, Netmask, Wildcard, Csv, Nft, Ipset, Json, Addresses}
+use Rattle.std.proofs.Common.{codes}
 use Rattle.cidr_merge.proofs.Examples.{ten}
 
 -- 192.0.2.7/32, and ::/1
@@ -24,7 +19,8 @@ lines_with_masks = (refl, refl)
 
 pub values : (export_text usual_names Csv [] [] ≡ codes "family,network,first,last\n")
     × (export_text usual_names Csv (ten ∷ []) (half ∷ [])
-    ≡ codes "family,network,first,last\nIPv4,10.0.0.0/8,10.0.0.0,10.255.255.255\nIPv6,::/1,::,7fff:ffff:ffff:ffff:ffff:ffff:ffff:ffff\n")
+    ≡ codes "family,network,first,last\nIPv4,10.0.0.0/8,10.0.0.0,10.255.255.255\n"
+    ++ codes "IPv6,::/1,::,7fff:ffff:ffff:ffff:ffff:ffff:ffff:ffff\n")
 unfolding digits
 values = (refl, refl)
 

@@ -1,14 +1,5 @@
 -- The findings printed so far, and those that are left.
-use Rattle.std.proofs.Common.{◌≡◌, ◌==◌, ◌||◌, ◌∙◌, ℕ, Bool, true, false, not, List, [], ◌∷◌, ◌++◌}
-use Rattle.std.proofs.Common.{refl, sym, ap, subst, length, append_assoc, append-nil}
-use Rattle.std.specs.List.{concat}
-use Rattle.std.proofs.Math.Dec.{eqb-suc-zero}
-use Rattle.std.proofs.lemmas.List.Folds.{concat-append}
-use Rattle.lines.specs.Outputs.{Written}
-use Rattle.program.specs.Messages.{Reports}
-use Rattle.program.proofs.Reported.{tells_more, tells_same, tells_nothing}
-use Rattle.cidr_merge.specs.Findings.{IsFound}
-use Rattle.cidr_merge.specs.Private.Reported.{TellsFound}
+use Rattle.cidr_merge.proofs.Words.{◌≡◌, ◌==◌, ◌||◌, ◌∙◌, ℕ, Bool, true, false, not, List, [], ◌∷◌, ◌++◌, refl, sym, ap, subst, length, append_assoc, append-nil, concat, list_any, eqb-suc-zero, concat-append, Written, Reports, tells_more, tells_same, tells_nothing, IsFound, TellsFound}
 
 is_some : (one : List ℕ) (found : List (List ℕ)) → not (length (one ∷ found) == 0) ≡ true
 is_some one found = ap not (eqb-suc-zero (length found))
@@ -65,3 +56,20 @@ pub all_told : {W : Type 0} (all left : List (List ℕ)) (old new : Written W) (
 all_told all left old new is_found h e =
     subst (λ (found : List (List ℕ)). TellsFound found old new is_found)
     (sym (append-nil h.0) ∙ ap (λ l. h.0 ++ l) (sym e) ∙ h.1) h.2
+
+-- ---- whether there is one
+
+-- one of all elements is such exactly if one of the elements before was, or one of those that are left is
+abbrev pub AnySoFar : {X : Type 0} → (X → Bool) → List X → List X → Bool → Type 0
+AnySoFar test all left found = (found || list_any test left) ≡ list_any test all
+
+or_assoc : (a b c : Bool) → ((a || b) || c) ≡ (a || (b || c))
+or_assoc true b c = refl
+or_assoc false b c = refl
+
+pub any_more : {X : Type 0} (test : X → Bool) (all left rest : List X) (x : X) (found more both : Bool)
+    → AnySoFar test all left found → left ≡ x ∷ rest → more ≡ test x → both ≡ (found || more)
+    → AnySoFar test all rest both
+any_more test all left rest x found more both h e k b =
+    ap (λ f. f || list_any test rest) (b ∙ ap (λ m. found || m) k) ∙ or_assoc found (test x) (list_any test rest)
+    ∙ ap (λ l. found || list_any test l) (sym e) ∙ h

@@ -1,13 +1,5 @@
 -- The earlier elements that are kept while a list is swept: all for which a test with a later element may hold.
-use Rattle.std.proofs.Common.{◌≡◌, ◌+◌, ◌-◌, ◌<◌, ◌≤◌, ◌∙◌, ℕ, Bool, true, false, List, [], ◌∷◌}
-use Rattle.std.proofs.Common.{◌++◌, refl, sym, ap, subst, arith, inl, inr, cond, length, take, drop}
-use Rattle.std.proofs.Common.{get_or, set, filter}
-use Rattle.std.specs.Prelude.{◌⊎◌}
-use Rattle.std.specs.List.{SwappedAt}
-use Rattle.std.proofs.lemmas.Bool.{cases_lt}
-use Rattle.std.proofs.lemmas.List.{take_more, take_more_set, take-set, take-set-le, drop-set-lt}
-use Rattle.std.proofs.lemmas.List.{drop-drop, get_or-drop, get_or_default, length-set}
-use Rattle.std.proofs.lemmas.List.Elements.{filter-append}
+use Rattle.cidr_merge.proofs.Words.{◌≡◌, ◌+◌, ◌-◌, ◌<◌, ◌≤◌, ◌∙◌, ℕ, Bool, true, false, List, [], ◌∷◌, ◌++◌, refl, sym, ap, subst, arith, inl, inr, cond, length, take, drop, get_or, set, filter, ◌⊎◌, SwappedAt, cases_lt, take_more, take_more_set, take-set, take-set-le, drop-set-lt, drop-drop, get_or-drop, get_or_default, length-set, filter-append}
 
 -- filtering by a test, then by a stricter one, is filtering by the stricter one
 kept_again : {X : Type 0} (p q : X → Bool) (xs : List X) → ((x : X) → q x ≡ true → p x ≡ true)

@@ -1,21 +1,5 @@
 -- The order of the entries of lists.
-use Rattle.std.proofs.Common.{◌≡◌, ◌+◌, ◌-◌, ◌<◌, ◌≤◌, ◌∙◌, ℕ, zero, suc, Bool, true, false, List}
-use Rattle.std.proofs.Common.{[], ◌∷◌, refl, sym, ap, subst, arith, inl, inr, length, map, get_or}
-use Rattle.std.specs.Prelude.{◌⊎◌, slice_index_or}
-use Rattle.std.specs.Cmp.{nat_cmp_is}
-use Rattle.std.proofs.lemmas.Bool.{cases_lt, true≢false}
-use Rattle.std.proofs.lemmas.Map.Keys.{le_from_is_le}
-use Rattle.std.specs.List.Sorted.{IsSorted}
-use Rattle.std.specs.Ordering.{nat_cmp, bool_cmp, ordering_then, is_le, is_lt}
-use Rattle.std.specs.declared.cmp.Ordering.{Ordering}
-use Rattle.std.specs.declared.cmp.Ordering.TheVariants.{Less, Equal}
-use Rattle.ipnetwork_addr.specs.Either.{ip_cmp}
-use Rattle.ipnetwork_addr.specs.declared.ip.IpAddr.{IpAddr}
-use Rattle.ipnetwork_addr.specs.declared.ip.IpAddr.TheVariants.{V4, V6}
-use Rattle.cidr_merge.specs.Overlaps.{Listed, listed_cmp, is_up_to, reaches}
-use Rattle.std.proofs.lemmas.List.{get_or-map, length-map}
-use Rattle.cidr_merge.specs.Private.Entries.{address_of, listed_as, overlaps}
-use Rattle.cidr_merge.specs.declared.placed.Placed.{Placed}
+use Rattle.cidr_merge.proofs.Words.{◌≡◌, ◌+◌, ◌-◌, ◌<◌, ◌≤◌, ◌∙◌, ℕ, zero, suc, Bool, true, false, List, [], ◌∷◌, refl, sym, ap, subst, arith, inl, inr, length, map, get_or, ◌⊎◌, slice_index_or, nat_cmp_is, cases_lt, true≢false, le_from_is_le, IsSorted, nat_cmp, bool_cmp, ordering_then, is_le, is_lt, Ordering, Less, Equal, ip_cmp, IpAddr, V4, V6, Listed, listed_cmp, is_up_to, reaches, get_or-map, length-map, address_of, listed_as, overlaps, Placed}
 use Rattle.cidr_merge.proofs.KeptEntries.{Falls}
 
 -- ---- addresses
@@ -56,25 +40,6 @@ pub up_to_itself : (a : IpAddr) → is_up_to a a ≡ true
 up_to_itself (V4 a) = of_le a a (omega arith)
 up_to_itself (V6 a) = of_le a a (omega arith)
 
-not_up_to : (a b : ℕ) → is_le (nat_cmp a b) ≡ false → b ≤ a
-not_up_to a b e = by (cases_lt b a) where
-  by : ((b < a) ⊎ (a ≤ b)) → b ≤ a
-  by (inl less) = omega (arith, less)
-  by (inr more) = absurd (true≢false (sym (of_le a b more) ∙ e))
-
-pub up_to_other : (a b : IpAddr) → is_up_to a b ≡ false → is_up_to b a ≡ true
-up_to_other (V4 a) (V4 b) e = of_le b a (not_up_to a b e)
-up_to_other (V4 a) (V6 b) e = absurd (let g = e in cc)
-up_to_other (V6 a) (V4 b) e = refl
-up_to_other (V6 a) (V6 b) e = of_le b a (not_up_to a b e)
-
--- two addresses, neither of which is after the other, are the same
-both_equal : (a b : IpAddr) → is_up_to a b ≡ true → is_up_to b a ≡ true → ip_cmp a b ≡ Equal
-both_equal (V4 a) (V4 b) e f = sym (nat_cmp_is a b Equal (omega (arith, le_of a b e, le_of b a f)))
-both_equal (V4 a) (V6 b) e f = absurd (let g = f in cc)
-both_equal (V6 a) (V4 b) e f = absurd (let g = e in cc)
-both_equal (V6 a) (V6 b) e f = sym (nat_cmp_is a b Equal (omega (arith, le_of a b e, le_of b a f)))
-
 -- ---- entries
 
 -- the first addresses ascend
@@ -93,38 +58,6 @@ ascends xs i (suc n) d h l =
     (ordering_then (nat_cmp (get_or xs (i + n + 1) d).list (get_or xs (i + n) d).list)
     (nat_cmp (get_or xs (i + n + 1) d).number (get_or xs (i + n) d).number)))
     (h (i + n) d (omega arith) (omega (arith, l)))))
-
--- of two entries with the same first address, the later in order ends no later
-one_first : (a b : Listed) → is_lt (listed_cmp b a) ≡ false → is_up_to b.first a.first ≡ true
-    → is_up_to a.first b.first ≡ true → is_up_to b.last a.last ≡ true
-one_first a b e down up =
-    let places = ordering_then (nat_cmp b.list a.list) (nat_cmp b.number a.number) in
-    first_up_to b.last a.last places (ap (λ (o : Ordering). is_lt
-    (ordering_then o (ordering_then (ip_cmp a.last b.last) places)))
-    (sym (both_equal b.first a.first down up)) ∙ e)
-
--- so the last addresses of entries with the same first address descend
-pub descends : (xs : List Listed) (i n : ℕ) (d : Listed) → IsSorted listed_cmp xs
-    → i + n < length xs → is_up_to (get_or xs (i + n) d).first (get_or xs i d).first ≡ true
-    → is_up_to (get_or xs (i + n) d).last (get_or xs i d).last ≡ true
-descends xs i zero d h l down =
-    subst (λ (k : ℕ). is_up_to (get_or xs k d).last (get_or xs i d).last ≡ true) (omega arith)
-    (up_to_itself (get_or xs i d).last)
-descends xs i (suc n) d h l down =
-    let one = get_or xs i d in
-    let mid = get_or xs (i + n) d in
-    let next : i + n + 1 ≡ i + suc n = omega arith in
-    let end = get_or xs (i + suc n) d in
-    let less : is_lt (listed_cmp end mid) ≡ false =
-    subst (λ (k : ℕ). is_lt (listed_cmp (get_or xs k d) (get_or xs (i + n) d)) ≡ false) next
-    (h (i + n) d (omega arith) (omega (arith, l))) in
-    let up : is_up_to mid.first end.first ≡ true =
-    first_up_to mid.first end.first (ordering_then (ip_cmp mid.last end.last)
-    (ordering_then (nat_cmp end.list mid.list) (nat_cmp end.number mid.number))) less in
-    let begins : is_up_to one.first mid.first ≡ true = ascends xs i n d h (omega (arith, l)) in
-    up_to_all end.last mid.last one.last (one_first mid end less
-    (up_to_all end.first one.first mid.first down begins) up)
-    (descends xs i n d h (omega (arith, l)) (up_to_all mid.first end.first one.first up down))
 
 pub reaches_falls : (xs : List Listed) → IsSorted listed_cmp xs → Falls reaches xs
 reaches_falls xs h i j d e l m asks =

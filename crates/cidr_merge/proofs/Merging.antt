@@ -1,16 +1,5 @@
 -- The blocks of two sides.
-use Rattle.std.proofs.Common.{◌≡◌, ◌<◌, ◌↔◌, ℕ, List, [], ◌∷◌, sym, ap, arith, length}
-use Rattle.std.specs.Prelude.{Option, None, Some, MatchOption}
-use Rattle.ipnetwork_family.specs.Network.{Network}
-use Rattle.ipnetwork_blocks.specs.LeastList.{IsLeastList}
-use Rattle.ipnetwork_blocks.proofs.LeastLists.{least_of_none}
-use Rattle.ipnetwork_blocks.specs.Aggregate.{InUnion}
-use Rattle.ipnetwork_blocks.proofs.LeastLists.{contains_nil}
-use Rattle.ipnetwork_sets.specs.RangeLists.{IsRangeList}
-use Rattle.ipnetwork_sets.specs.Sets.{InFirstAlone}
-use Rattle.cidr_merge.specs.Answers.{IsLeftOfSecond}
-use Rattle.cidr_merge.specs.Private.Sweeps.{left_of_second, with_head}
-use Rattle.cidr_merge.specs.declared.command_line.Operation.{Operation}
+use Rattle.cidr_merge.proofs.Words.{◌≡◌, ◌<◌, ◌↔◌, ℕ, List, [], ◌∷◌, sym, ap, arith, length, Option, None, Some, MatchOption, Network, IsLeastList, least_of_none, InUnion, contains_nil, IsRangeList, InFirstAlone, IsLeftOfSecond, left_of_second, with_head, Operation}
 use Rattle.cidr_merge.specs.declared.command_line.Operation.TheVariants as operations
 
 pub least_of_second : (operation : Operation) (w : ℕ) (first second blocks : List Network)

@@ -1,20 +1,9 @@
 -- Lists at which a wrong definition of their lines would show. Each of these computes.
-use Rattle.std.proofs.Common.{◌≡◌, ◌∷◌, ℕ, List, [], true, false, map, refl}
-use Rattle.std.specs.Fmt.{digits}
-use Rattle.std.specs.Prelude.{codes, Option, None, Some, Result, Ok, Err}
-use Rattle.ipnetwork_addr.specs.Computed.Ipv6Text.{v6_of, gap_below}
-use Rattle.ipnetwork_addr.specs.declared.ip.IpAddr.TheVariants.{V4, V6}
+use Rattle.cidr_merge.proofs.Words.{◌≡◌, ◌∷◌, ℕ, List, [], true, false, map, refl, digits, codes, None, Some, Ok, Err, v6_of, gap_below, V4, V6, Range, has, NumberedLine, is_range, numbered_lines, said_by}
 use Rattle.ipnetwork.specs.declared.ip_network.IpNetwork.TheVariants as networks
-use Rattle.lists.specs.Entries.{ReadsEntry}
-use Rattle.lists.specs.Lists.{Names}
-use Rattle.lists.specs.declared.entry.Entry.{Entry}
-use Rattle.lists.specs.declared.entry.Entry.TheVariants.{Network, Range}
-use Rattle.lists.specs.declared.entry.EntryFault.{EntryFault}
+use Rattle.lists.specs.declared.entry.Entry.TheVariants.{Network}
 use Rattle.lists.specs.declared.entry.EntryFault.TheVariants as causes
 use Rattle.lists.specs.declared.fault.LineFault.TheVariants as faults
-use Rattle.cidr_merge.specs.Finds.{has}
-use Rattle.cidr_merge.specs.Laws.{EntriesHaveWhatTheyName, LinesAreReadAsComputed}
-use Rattle.cidr_merge.specs.NumberedLines.{NumberedLine, is_range, numbered_lines, said_by}
 
 abbrev line : ℕ → ℕ → List ℕ → NumberedLine
 line list number text = record { list = list; number = number; text = text }
@@ -59,31 +48,3 @@ pub what_entries_have :
     map (has (Range (V4 5) (V4 7))) (V4 4 ∷ V4 5 ∷ V4 7 ∷ V4 8 ∷ V6 6 ∷ [])
     ≡ false ∷ true ∷ true ∷ false ∷ false ∷ []
 what_entries_have = refl
-
--- ---- the laws, for lines to which weaker laws would not apply
-
-pub a_backward_range_is_no_entry : LinesAreReadAsComputed → (entry : Entry)
-    → ReadsEntry (codes "::2 - ::1") (Ok (Some entry)) → ⊥
-unfolding digits v6_of gap_below
-a_backward_range_is_no_entry law entry h =
-    let e : ◌≡◌ {A = Result (Option Entry) EntryFault} (Ok (Some entry)) (Err causes.Range) =
-    law (codes "::2 - ::1") (Ok (Some entry)) h in none entry e where
-      none : (entry : Entry)
-          → ◌≡◌ {A = Result (Option Entry) EntryFault} (Ok (Some entry)) (Err causes.Range) → ⊥
-      none entry e = cc
-
-pub a_prefix_length_is_the_cause : LinesAreReadAsComputed → (fault : EntryFault)
-    → ReadsEntry (codes "::/129") (Err fault) → fault ≡ causes.Prefix
-unfolding digits v6_of gap_below
-a_prefix_length_is_the_cause law fault h = cause fault (law (codes "::/129") (Err fault) h) where
-  cause : (fault : EntryFault)
-      → ◌≡◌ {A = Result (Option Entry) EntryFault} (Err fault) (Err causes.Prefix)
-      → fault ≡ causes.Prefix
-  cause fault e = cc
-
-pub the_last_address_is_named : EntriesHaveWhatTheyName
-    → Names (Range (V4 0) (V4 0xffffffff)) (V4 0xffffffff)
-the_last_address_is_named law = (law (Range (V4 0) (V4 0xffffffff)) (V4 0xffffffff)).0 refl
-
-pub the_other_family_is_not : EntriesHaveWhatTheyName → ¬ (Names (Range (V6 0) (V6 9)) (V4 5))
-the_other_family_is_not law h = let e = (law (Range (V6 0) (V6 9)) (V4 5)).1 h in cc

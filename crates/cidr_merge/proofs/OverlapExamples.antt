@@ -1,10 +1,6 @@
 -- Entries at which a wrong definition of `listed_cmp`, `reaches`, `relation` or `search_status` would show.
-use Rattle.std.proofs.Common.{◌≡◌, [], ◌∷◌, true, false, refl}
-use Rattle.std.specs.Prelude.{codes}
-use Rattle.std.specs.declared.cmp.Ordering.TheVariants.{Less}
+use Rattle.cidr_merge.proofs.Words.{◌≡◌, [], ◌∷◌, true, false, refl, codes, Less, search_status, Listed, listed_cmp, reaches, relation}
 use Rattle.ipnetwork_addr.specs.declared.ip.IpAddr.TheVariants as addresses
-use Rattle.cidr_merge.specs.FindRuns.{search_status}
-use Rattle.cidr_merge.specs.Overlaps.{Listed, listed_cmp, reaches, relation}
 use Rattle.cidr_merge.proofs.CheckExamples.{entry}
 
 -- 10.0.0.0/8, and the same in another list; the first /16 in it; a range that ends after it; the entry right after
@@ -44,6 +40,6 @@ pub which_comes_first : (listed_cmp wide narrow ≡ Less) × (listed_cmp wide ag
 which_comes_first = (refl, refl)
 
 -- no line is found; a line is found; a refused line takes precedence over one that is found
-pub exit_statuses : (search_status [] [] ≡ 1) × (search_status ([] ∷ []) [] ≡ 0)
-    × (search_status ([] ∷ []) ([] ∷ []) ≡ 2)
-exit_statuses = (refl, refl, refl)
+pub exit_statuses : (search_status [] false ≡ 1) × (search_status ([] ∷ []) false ≡ 0)
+    × (search_status ([] ∷ []) true ≡ 2) × (search_status [] true ≡ 2)
+exit_statuses = (refl, refl, refl, refl)

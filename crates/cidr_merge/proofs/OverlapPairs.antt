@@ -1,20 +1,5 @@
 -- The pairs of entries that overlap, entry by entry.
-use Rattle.std.proofs.Common.{◌≡◌, ◌==◌, ◌+◌, ◌||◌, ◌<◌, ◌∙◌, ℕ, Bool, true, false, not, List, []}
-use Rattle.std.proofs.Common.{◌∷◌, ◌++◌, refl, sym, ap, subst, arith, cond, length, map, take}
-use Rattle.std.proofs.Common.{get_or, filter, append_assoc, append-nil}
-use Rattle.std.specs.Prelude.{String}
-use Rattle.std.specs.List.{concat, SwappedAt}
-use Rattle.std.specs.List.Sorted.{IsSorted}
-use Rattle.std.proofs.lemmas.List.Folds.{concat-append}
-use Rattle.std.proofs.lemmas.List.{take_more, map_push, length-map, get_or_default}
-use Rattle.lines.specs.Outputs.{Written}
-use Rattle.program.specs.Messages.{Reports}
-use Rattle.program.proofs.Reported.{tells_more, tells_same}
-use Rattle.cidr_merge.specs.Overlaps.{Listed, reaches, pair_text, pairs_with, pairs_after}
-use Rattle.cidr_merge.specs.Overlaps.{listed_cmp}
-use Rattle.cidr_merge.specs.Private.Entries.{listed_as, overlaps, KeepsReaching}
-use Rattle.cidr_merge.specs.Private.Reported.{TellsFound}
-use Rattle.cidr_merge.specs.declared.placed.Placed.{Placed}
+use Rattle.cidr_merge.proofs.Words.{◌≡◌, ◌==◌, ◌+◌, ◌||◌, ◌<◌, ◌∙◌, ℕ, Bool, true, false, not, List, [], ◌∷◌, ◌++◌, refl, sym, ap, subst, arith, cond, length, map, take, get_or, filter, append_assoc, append-nil, String, concat, SwappedAt, IsSorted, concat-append, take_more, map_push, length-map, get_or_default, Written, Reports, tells_more, tells_same, Listed, reaches, pair_text, pairs_with, pairs_after, listed_cmp, listed_as, overlaps, KeepsReaching, TellsFound, Placed}
 use Rattle.cidr_merge.proofs.Places.{up_to_next}
 use Rattle.cidr_merge.proofs.Found.{tells_both}
 use Rattle.cidr_merge.proofs.KeptEntries.{Swept, swept_more, as_it_was, same_further}

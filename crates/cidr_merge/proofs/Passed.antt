@@ -1,34 +1,7 @@
 -- The places of sought addresses, by number.
-use Rattle.std.proofs.Common.{◌≡◌, ◌+◌, ◌-◌, ◌*◌, ◌/◌, ◌^◌, ◌<◌, ◌≤◌, ◌==◌, ◌&&◌, ◌∙◌, ℕ, zero, suc, Bool, true, false}
-use Rattle.std.proofs.Common.{List, [], ◌∷◌, ◌++◌, refl, sym, ap, subst, arith, inl, inr, length, map, take, drop, get_or, length-take}
-use Rattle.std.specs.Prelude.{◌⊎◌, nat_lt, nat_le, IsTrue, Option, None, Some, Result, Ok, Err}
-use Rattle.std.specs.List.{All, Contains, flat_map}
-use Rattle.std.specs.List.Sorted.{IsNonDecreasing, IsPartitionedBy, IsPartitionPoint, IsPermutation, IsSorted}
-use Rattle.std.specs.Ordering.{nat_cmp, ordering_then}
-use Rattle.std.specs.declared.cmp.Ordering.{Ordering}
-use Rattle.std.proofs.Math.Seq.{drop-nil}
-use Rattle.std.proofs.lemmas.Nat.{pow_pos}
-use Rattle.std.proofs.Math.Nat.{div-mul-le_self, le-div_iff_mul-le, lt-div-mul-add}
-use Rattle.std.proofs.lemmas.Bool.{cases_lt, eqb-true, leb-true, lt-ltb, ltb-true}
-use Rattle.std.proofs.lemmas.List.{get_or-drop, get_or-take, get_or_default, length-append, length-drop}
-use Rattle.std.proofs.lemmas.List.Elements.{All-drop, All-map, All-push, All-take, Contains-append_left, Contains-append_right}
-use Rattle.std.proofs.lemmas.List.Sorted.{All-permutation, Contains-permutation, IsNonDecreasingBy-drop, IsNonDecreasingBy-from_all_adjacent, IsNonDecreasingBy-from_sort, length_permutation}
-use Rattle.ipnetwork_addr.specs.Computed.Reading.{answer_from}
-use Rattle.ipnetwork_addr.specs.declared.error.AddrParseError.{AddrParseError}
-use Rattle.ipnetwork_addr.specs.declared.error.AddrParseError.TheVariants.{Ip}
+use Rattle.cidr_merge.proofs.Words.{◌≡◌, ◌+◌, ◌-◌, ◌*◌, ◌/◌, ◌^◌, ◌<◌, ◌≤◌, ◌==◌, ◌&&◌, ◌∙◌, ℕ, zero, suc, Bool, true, false, List, [], ◌∷◌, ◌++◌, refl, sym, ap, subst, arith, inl, inr, length, map, take, drop, get_or, length-take, ◌⊎◌, nat_lt, nat_le, IsTrue, Option, None, Some, Result, Ok, Err, All, Contains, flat_map, IsNonDecreasing, IsPartitionedBy, IsPartitionPoint, IsPermutation, IsSorted, nat_cmp, ordering_then, Ordering, drop-nil, pow_pos, div-mul-le_self, le-div_iff_mul-le, lt-div-mul-add, cases_lt, eqb-true, leb-true, lt-ltb, ltb-true, get_or-drop, get_or-take, get_or_default, length-drop, All-drop, All-map, All-take, All-permutation, Contains-permutation, IsNonDecreasingBy-drop, IsNonDecreasingBy-from_all_adjacent, IsNonDecreasingBy-from_sort, length_permutation, answer_from, AddrParseError, Ip, IpAddr, V4, V6, is_member, Network, block_size, low, high, map_contains, Entry, has, match_lines, ends_of, sought_as, AreAscending, AreFound, ArePartOf, ArePlacesOf, is_v6, number_of, Sought}
 use Rattle.ipnetwork.specs.declared.ip_network.IpNetwork.TheVariants as networks
-use Rattle.ipnetwork_addr.specs.declared.ip.IpAddr.{IpAddr}
-use Rattle.ipnetwork_addr.specs.declared.ip.IpAddr.TheVariants.{V4, V6}
-use Rattle.ipnetwork_family.specs.Computed.Network.{is_member}
-use Rattle.ipnetwork_family.specs.Network.{Network, block_size, low, high}
-use Rattle.lists.proofs.Printed.{map_contains}
-use Rattle.lists.specs.declared.entry.Entry.{Entry}
 use Rattle.lists.specs.declared.entry.Entry.TheVariants as entries
-use Rattle.cidr_merge.specs.Finds.{has, match_lines}
-use Rattle.cidr_merge.specs.Overlaps.{ends_of}
-use Rattle.cidr_merge.specs.Private.LinesLeft.{sought_as}
-use Rattle.cidr_merge.specs.Private.SoughtPlaces.{AreAscending, AreFound, ArePartOf, ArePlacesOf, is_v6, number_of}
-use Rattle.cidr_merge.specs.declared.sought.Sought.{Sought}
 use Rattle.cidr_merge.proofs.ListedOrder.{not_before}
 
 -- ---- the numbers of an entry
@@ -54,7 +27,8 @@ abbrev IsWithin : IpAddr × IpAddr → IpAddr → Type 0
 IsWithin ends address = (is_v6 address ≡ is_v6 ends.0)
     × (number_of ends.0 ≤ number_of address) × (number_of address ≤ number_of ends.1)
 
-first_bits : (first a last : ℕ) → (first ≤ a) × (a ≤ last) → (first * 2 ^ 96 ≤ a * 2 ^ 96) × (a * 2 ^ 96 ≤ last * 2 ^ 96)
+first_bits : (first a last : ℕ) → (first ≤ a) × (a ≤ last) → (first * 2 ^ 96 ≤ a * 2 ^ 96)
+    × (a * 2 ^ 96 ≤ last * 2 ^ 96)
 first_bits first a last l = let low = l.0 in let high = l.1 in (omega (arith, low), omega (arith, high))
 
 pub within_ends : (entry : Entry) (address : IpAddr) → IsTrue (has entry address) → IsWithin (ends_of entry) address
@@ -160,7 +134,8 @@ front places count last up within stop = record {
 pub are_found : (entry : Entry) (of_v6 : Bool) (sought : List Sought) (places found : List (ℕ × ℕ))
     (unsorted sorted : List ℕ) (low high : ℕ) → of_v6 ≡ is_v6 (ends_of entry).0 → low ≡ number_of (ends_of entry).0
     → high ≡ number_of (ends_of entry).1 → ArePlacesOf of_v6 sought places
-    → ArePartOf places found (λ number. (low ≤ number) × (number ≤ high)) → unsorted ≡ map (λ place. place.1) found → IsPermutation unsorted sorted → IsSorted nat_cmp sorted
+    → ArePartOf places found (λ number. (low ≤ number) × (number ≤ high)) → unsorted ≡ map (λ place. place.1) found
+    → IsPermutation unsorted sorted → IsSorted nat_cmp sorted
     → AreFound entry sought sorted
 are_found entry of_v6 sought places found unsorted sorted low high family first last are part put moved sort = record {
   ascend = IsNonDecreasingBy-from_sort (λ n. n) sorted sort;
@@ -249,56 +224,6 @@ pub record ArePlacesUpTo (of_v6 : Bool) (sought : List Sought) (places : List (�
   pub within : All (λ place. place.1 < count) places
   pub each : (at : ℕ) (d : Sought) → at < count → is_v6 (get_or sought at d).address ≡ of_v6
       → Contains places (number_of (get_or sought at d).address, at)
-
-below_next : (places : List (ℕ × ℕ)) (count : ℕ) → All (λ place. place.1 < count) places
-    → All (λ place. place.1 < count + 1) places
-below_next places count h k d l = let less = h k d l in omega (arith, less)
-
-pub placed_none : (of_v6 : Bool) (sought : List Sought) → ArePlacesUpTo of_v6 sought [] 0
-placed_none of_v6 sought = record {
-  few = omega arith;
-  within = λ k d l. absurd (omega (arith, l));
-  each = λ at d l family. absurd (omega (arith, l));
-}
-
-pub placed_more : (of_v6 : Bool) (sought : List Sought) (places : List (ℕ × ℕ)) (count n : ℕ) (one : Sought)
-    → ArePlacesUpTo of_v6 sought places count → count < length sought → one ≡ get_or sought count one
-    → n ≡ number_of one.address → ArePlacesUpTo of_v6 sought (places ++ (n, count) ∷ []) (count + 1)
-placed_more of_v6 sought places count n one h within is e = record {
-  few = omega (arith, length-append places ((n, count) ∷ []), h.few);
-  within = All-push (λ place. place.1 < count + 1) places (n, count) (below_next places count h.within) (omega arith);
-  each = λ at d l family. by at d l family (cases_lt at count);
-} where
-  by : (at : ℕ) (d : Sought) → at < count + 1 → is_v6 (get_or sought at d).address ≡ of_v6
-      → ((at < count) ⊎ (count ≤ at)) → Contains (places ++ (n, count) ∷ []) (number_of (get_or sought at d).address, at)
-  by at d l family (inl less) =
-      Contains-append_left places ((n, count) ∷ []) (number_of (get_or sought at d).address, at) (h.each at d less family)
-  by at d l family (inr more) =
-      let same : at ≡ count = omega (arith, l, more) in
-      let here : get_or sought at d ≡ one =
-      ap (λ (k : ℕ). get_or sought k d) same ∙ get_or_default sought count d one within ∙ sym is in
-      subst (λ (p : ℕ × ℕ). Contains (places ++ (n, count) ∷ []) p)
-      (ap (λ (m : ℕ). (m, count)) (e ∙ ap (λ (s : Sought). number_of s.address) (sym here))
-      ∙ ap (λ (k : ℕ). (number_of (get_or sought at d).address, k)) (sym same))
-      (Contains-append_right places ((n, count) ∷ []) (n, count) (0, omega arith, refl))
-
--- an address of the other family has no place
-pub placed_other : (of_v6 : Bool) (sought : List Sought) (places : List (ℕ × ℕ)) (count : ℕ) (one : Sought)
-    → ArePlacesUpTo of_v6 sought places count → count < length sought → one ≡ get_or sought count one
-    → ¬ (is_v6 one.address ≡ of_v6) → ArePlacesUpTo of_v6 sought places (count + 1)
-placed_other of_v6 sought places count one h within is other = record {
-  few = omega (arith, h.few);
-  within = below_next places count h.within;
-  each = λ at d l family. by at d l family (cases_lt at count);
-} where
-  by : (at : ℕ) (d : Sought) → at < count + 1 → is_v6 (get_or sought at d).address ≡ of_v6
-      → ((at < count) ⊎ (count ≤ at)) → Contains places (number_of (get_or sought at d).address, at)
-  by at d l family (inl less) = h.each at d less family
-  by at d l family (inr more) =
-      let same : at ≡ count = omega (arith, l, more) in
-      let here : get_or sought at d ≡ one =
-      ap (λ (k : ℕ). get_or sought k d) same ∙ get_or_default sought count d one within ∙ sym is in
-      absurd (other (ap (λ (s : Sought). is_v6 s.address) (sym here) ∙ family))
 
 pub all_placed : (of_v6 : Bool) (sought : List Sought) (places sorted : List (ℕ × ℕ)) (count : ℕ)
     → count ≡ length sought → ArePlacesUpTo of_v6 sought places count

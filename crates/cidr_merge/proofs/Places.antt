@@ -1,11 +1,6 @@
 -- Lists up to a place, and with one more item.
-use Rattle.std.proofs.Common.{◌≡◌, ◌+◌, ◌<◌, ◌∙◌, ℕ, List, [], ◌∷◌, ◌++◌, refl, sym, ap}
-use Rattle.std.proofs.Common.{length, take, drop, get_or, append_assoc}
-use Rattle.std.specs.Prelude.{String, map}
-use Rattle.std.specs.String.{string_bytes}
-use Rattle.std.proofs.lemmas.List.{drop-map, take_more, take-append-drop}
-use Rattle.cidr_merge.specs.Faults.{files_among}
-use Rattle.cidr_merge.specs.declared.tasks.Task.{Task}
+use Rattle.cidr_merge.proofs.Words.{◌≡◌, ◌+◌, ◌<◌, ◌∙◌, ℕ, List, [], ◌∷◌, ◌++◌, refl, sym, ap, length, take, drop, get_or, append_assoc, String, string_bytes, drop-map, take_more, take-append-drop, files_among, Task}
+use Rattle.std.specs.Prelude.{map}
 use Rattle.cidr_merge.specs.declared.tasks.Task.TheVariants as tasks
 
 -- the items before a place, then the item at it, are those before the next place

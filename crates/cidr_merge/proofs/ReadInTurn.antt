@@ -1,14 +1,5 @@
 -- Lists that are read in turn.
-use Rattle.std.proofs.Common.{◌≡◌, ◌<◌, ◌+◌, ◌++◌, ◌∷◌, [], ℕ, List, false, refl}
-use Rattle.std.proofs.Common.{sym, subst, arith, length, get_or, take, length-take}
-use Rattle.std.specs.Prelude.{Result, Ok, Err, OnOk, String}
-use Rattle.std.specs.String.{string_bytes}
-use Rattle.ipnetwork_blocks.specs.Aggregate.{IsAggregate}
-use Rattle.lists.specs.Lists.{ReadLists, nothing_read}
-use Rattle.lists.specs.Refusals.{Refused}
-use Rattle.cidr_merge.specs.Shapes.{Source, ReadsOne}
-use Rattle.cidr_merge.specs.Reading.{ReadsLists, ReadsSide}
-use Rattle.cidr_merge.specs.declared.reading.Sets.{Sets}
+use Rattle.cidr_merge.proofs.Words.{◌≡◌, ◌<◌, ◌+◌, ◌++◌, ◌∷◌, [], ℕ, List, false, refl, sym, subst, arith, length, get_or, take, length-take, Result, Ok, Err, OnOk, String, string_bytes, IsAggregate, ReadLists, nothing_read, Refused, Source, ReadsOne, ReadsLists, ReadsSide, Sets}
 use Rattle.cidr_merge.proofs.Places.{up_to_next}
 
 -- one more list was read

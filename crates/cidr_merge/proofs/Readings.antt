@@ -1,36 +1,8 @@
 -- What a line says can be computed.
-use Rattle.std.proofs.Common.{◌≡◌, ◌≢◌, ◌↔◌, ◌∙◌, ◌<◌, ◌≤◌, ◌&&◌, ℕ, Bool, true, false, List, []}
-use Rattle.std.proofs.Common.{◌∷◌, length, refl, sym, ap, arith, inl, inr}
-use Rattle.std.specs.Prelude.{nat_lt, nat_le, if◌then◌else◌, Option, None, Some, Result, Ok, Err}
-use Rattle.std.specs.Prelude.{IsTrue}
-use Rattle.std.specs.List.{before_first, after_first, position_or_len}
-use Rattle.std.proofs.lemmas.Bool.{lt-ltb, ltb-true, le-leb, leb-true}
-use Rattle.ipnetwork_addr.specs.Computed.Either.{ip_of}
-use Rattle.ipnetwork_addr.specs.Computed.Reading.{answer_from}
-use Rattle.ipnetwork_addr.specs.Either.{NamesIp}
-use Rattle.ipnetwork_addr.specs.Reading.{Reads}
-use Rattle.ipnetwork_addr.specs.declared.error.AddrParseError.{AddrParseError}
-use Rattle.ipnetwork_addr.specs.declared.error.AddrParseError.TheVariants.{Ip}
-use Rattle.ipnetwork_addr.specs.declared.ip.IpAddr.{IpAddr}
-use Rattle.ipnetwork_addr.specs.declared.ip.IpAddr.TheVariants.{V4, V6}
-use Rattle.ipnetwork_family.specs.NetworkText.{slashes, before_slash}
-use Rattle.ipnetwork_family.specs.declared.error.CidrFault.{CidrFault}
-use Rattle.ipnetwork.specs.Computed.IpNetworkText.{ip_network_of}
-use Rattle.ipnetwork.specs.Computed.IpNetworks.{is_ip_member}
-use Rattle.ipnetwork.specs.IpNetworks.{IpMember}
-use Rattle.ipnetwork.specs.IpNetworkText.{NamesIpNetwork, ReadsIpNetwork}
-use Rattle.ipnetwork.specs.declared.ip_network.IpNetwork.{IpNetwork}
-use Rattle.lists.specs.Entries.{entry_text, is_dash, HasDash, IsEntryCause, IsPlainCause, IsRange, NamesEntry}
-use Rattle.lists.specs.Lines.{trimmed}
-use Rattle.lists.specs.declared.entry.Entry.{Entry}
-use Rattle.lists.specs.declared.entry.Entry.TheVariants.{Network, Range}
-use Rattle.lists.specs.declared.entry.EntryFault.{EntryFault}
+use Rattle.cidr_merge.proofs.Words.{◌≡◌, ◌≢◌, ◌↔◌, ◌∙◌, ◌<◌, ◌≤◌, ℕ, Bool, true, false, List, [], ◌∷◌, length, refl, sym, ap, arith, inl, inr, nat_lt, nat_le, if◌then◌else◌, Option, None, Some, Result, Ok, Err, before_first, after_first, position_or_len, lt-ltb, ltb-true, le-leb, leb-true, ip_of, answer_from, NamesIp, Reads, AddrParseError, Ip, IpAddr, V4, V6, slashes, before_slash, CidrFault, ip_network_of, NamesIpNetwork, ReadsIpNetwork, IpNetwork, entry_text, is_dash, HasDash, IsEntryCause, IsPlainCause, IsRange, NamesEntry, ReadsEntry, trimmed, Entry, Range, EntryFault, address_or_prefix, as_said, entry_or_none, is_range, network_entry, network_fault, range_between, reading_of, plain_entry, said_by, some_entry, text_entry, told_entry}
+use Rattle.lists.specs.declared.entry.Entry.TheVariants.{Network}
 use Rattle.lists.specs.declared.entry.EntryFault.TheVariants as causes
 use Rattle.lists.specs.declared.fault.LineFault.TheVariants as faults
-use Rattle.cidr_merge.specs.Laws.{EntriesHaveWhatTheyName, LinesAreReadAsComputed}
-use Rattle.cidr_merge.specs.NumberedLines.{address_or_prefix, as_said, entry_or_none, is_range}
-use Rattle.cidr_merge.specs.NumberedLines.{network_entry, network_fault, range_between, reading_of}
-use Rattle.cidr_merge.specs.NumberedLines.{plain_entry, said_by, some_entry, text_entry, told_entry}
 
 -- ---- tests
 
@@ -169,12 +141,13 @@ module _ (networks : (text : List ℕ) (result : Result IpNetwork CidrFault)
   some_text [] some = absurd (some refl)
   some_text (byte ∷ text) some = refl
 
-  pub lines_are_read_as_computed : LinesAreReadAsComputed
-  lines_are_read_as_computed line (Ok None) h = sym (ap entry_or_none h)
-  lines_are_read_as_computed line (Ok (Some entry)) h =
+  pub read_as_computed : (line : List ℕ) (reading : Result (Option Entry) EntryFault) → ReadsEntry line reading
+      → reading ≡ reading_of line
+  read_as_computed line (Ok None) h = sym (ap entry_or_none h)
+  read_as_computed line (Ok (Some entry)) h =
       sym (some_text (entry_text line) h.0
       ∙ ap some_entry (entry_is (entry_text line) entry h.1))
-  lines_are_read_as_computed line (Err fault) h =
+  read_as_computed line (Err fault) h =
       sym (some_text (entry_text line) h.0
       ∙ ap some_entry (fault_is (entry_text line) fault h.1 h.2))
 
@@ -187,26 +160,3 @@ said_is line reading short e =
 
 pub too_long : (line : List ℕ) → 1024 < length line → Err faults.Length ≡ said_by line
 too_long line long = sym (rw (lt-ltb 1024 (length line) long))
-
--- ---- members
-
-both_true : (a b : Bool) → IsTrue (a && b) ↔ (IsTrue a × IsTrue b)
-both_true true b = (λ h. (refl, h), λ h. h.1)
-both_true false b = (λ h. absurd (let e = h in cc), λ h. h.0)
-
-range_test : (first last : IpAddr) → IsTrue (is_range first last) ↔ IsRange first last
-range_test (V4 first) (V4 last) = (leb-true first last, le-leb first last)
-range_test (V4 first) (V6 last) = (λ h. absurd (let e = h in cc), λ h. absurd h)
-range_test (V6 first) (V4 last) = (λ h. absurd (let e = h in cc), λ h. absurd h)
-range_test (V6 first) (V6 last) = (leb-true first last, le-leb first last)
-
-pub have_what_they_name : ((n : IpNetwork) (a : IpAddr) → IsTrue (is_ip_member n a) ↔ IpMember n a)
-    → EntriesHaveWhatTheyName
-have_what_they_name members (Network n) address = members n address
-have_what_they_name members (Range first last) address =
-    let both = both_true (is_range first address) (is_range address last) in
-    let one = range_test first address in
-    let other = range_test address last in (
-      λ h. let k = both.0 h in (one.0 k.0, other.0 k.1),
-      λ h. both.1 (one.1 h.0, other.1 h.1),
-    )

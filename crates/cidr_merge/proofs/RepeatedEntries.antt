@@ -1,13 +1,5 @@
 -- The entries that share addresses with an earlier one, entry by entry.
-use Rattle.std.proofs.Common.{◌≡◌, ◌+◌, ◌||◌, ◌<◌, ◌∙◌, ℕ, Bool, List, ◌++◌, sym, ap, length}
-use Rattle.std.proofs.Common.{map, drop, get_or}
-use Rattle.std.specs.Prelude.{String}
-use Rattle.std.proofs.lemmas.List.{at_drop_more}
-use Rattle.lines.specs.Outputs.{Written}
-use Rattle.cidr_merge.specs.Private.Entries.{listed_as}
-use Rattle.cidr_merge.specs.Private.Reported.{TellsFound}
-use Rattle.cidr_merge.specs.Repetitions.{further, other_of, overlap_with, repetitions_after}
-use Rattle.cidr_merge.specs.declared.placed.Placed.{Placed}
+use Rattle.cidr_merge.proofs.Words.{◌≡◌, ◌+◌, ◌||◌, ◌<◌, ◌∙◌, ℕ, Bool, List, ◌++◌, sym, ap, length, map, drop, get_or, String, at_drop_more, Written, listed_as, TellsFound, further, other_of, overlap_with, repetitions_after, Placed}
 use Rattle.cidr_merge.proofs.Found.{ToldSoFar, more_so_far}
 
 -- the findings for the entries that are left

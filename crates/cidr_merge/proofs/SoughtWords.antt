@@ -1,13 +1,5 @@
 -- The addresses that words name.
-use Rattle.std.proofs.Common.{◌≡◌, ◌+◌, ◌<◌, ◌≤◌, ℕ, List, [], ◌∷◌, ◌++◌, refl, sym}
-use Rattle.std.proofs.Common.{subst, arith, length, take, drop, get_or}
-use Rattle.std.proofs.Common.{length-take}
-use Rattle.std.specs.Prelude.{String}
-use Rattle.std.specs.String.{string_bytes}
-use Rattle.std.proofs.lemmas.List.{take_all}
-use Rattle.ipnetwork_addr.specs.Either.{NamesIp}
-use Rattle.ipnetwork_addr.specs.declared.ip.IpAddr.{IpAddr}
-use Rattle.cidr_merge.specs.FindWords.{AreAddresses, IsFirstWrong}
+use Rattle.cidr_merge.proofs.Words.{◌≡◌, ◌+◌, ◌<◌, ℕ, List, [], ◌∷◌, ◌++◌, refl, sym, subst, arith, length, take, drop, get_or, String, string_bytes, NamesIp, IpAddr, AreAddresses, HasNoAddress}
 use Rattle.cidr_merge.proofs.Places.{up_to_next, cut_at}
 
 -- there are as many addresses as words
@@ -41,26 +33,14 @@ addresses_on words addresses place word bytes address l is b h k =
     (addresses_more (take place words) addresses word address h
     (subst (λ (t : List ℕ). NamesIp t address) b k))
 
--- all words were read
-pub all_addresses : {Z : Type 0} (words : List (String Z)) (addresses : List IpAddr) (place : ℕ)
-    → length words ≤ place → AreAddresses (take place words) addresses
-    → AreAddresses words addresses
-all_addresses words addresses place l h =
-    subst (λ ws. AreAddresses ws addresses) (take_all place words l) h
-
 -- the word at a place is not an address
-pub first_wrong : {Z : Type 0} (first : ℕ) (words : List (String Z)) (addresses : List IpAddr)
-    (place : ℕ) (word : String Z) (bytes : List ℕ) → place < length words
-    → word ≡ get_or words place word
-    → bytes ≡ string_bytes word → AreAddresses (take place words) addresses
-    → ((address : IpAddr) → ¬ (NamesIp bytes address)) → IsFirstWrong first words (first + place)
-first_wrong first words addresses place word bytes l is b h k = record {
+pub wrong_word : {Z : Type 0} (words : List (String Z)) (place : ℕ) (word : String Z) (bytes : List ℕ)
+    → place < length words → word ≡ get_or words place word → bytes ≡ string_bytes word
+    → ((address : IpAddr) → ¬ (NamesIp bytes address)) → HasNoAddress words
+wrong_word words place word bytes l is b k = record {
   before = take place words;
   word = word;
   behind = drop (place + 1) words;
-  addresses = addresses;
   cut = cut_at words place word l is;
-  count = omega (arith, l, length-take place words);
-  right = h;
   wrong = subst (λ (t : List ℕ). (address : IpAddr) → ¬ (NamesIp t address)) b k;
 }

@@ -1,12 +1,5 @@
 -- The first line of a text.
-use Rattle.std.proofs.Common.{◌≡◌, ℕ, ◌+◌, ◌-◌, ◌<◌, List, [], ◌∷◌, length, take, drop, ap, subst}
-use Rattle.std.proofs.Common.{◌∙◌, arith}
-use Rattle.std.specs.Str.Lines.{lines, strip_carriage_return}
-use Rattle.std.proofs.Math.Seq.{drop-length}
-use Rattle.std.proofs.lemmas.List.{take_rest}
-use Rattle.byte_search.specs.Bytes.{IsAbsent, IsNext}
-use Rattle.lines.proofs.BytesLemmas.{IsFirst, split_text, none_behind, first_behind}
-use Rattle.lines.proofs.Lines.{last_line, lines_line, lines_last}
+use Rattle.cidr_merge.proofs.Words.{◌≡◌, ℕ, ◌+◌, ◌-◌, ◌<◌, List, [], ◌∷◌, length, take, drop, ap, subst, ◌∙◌, arith, lines, strip_carriage_return, drop-length, take_rest, IsAbsent, IsNext, IsFirst, split_text, none_behind, first_behind, last_line, lines_line, lines_last}
 
 pub line_before : (text : List ℕ) (at : ℕ) → IsNext 10 text 0 at
     → lines text ≡ strip_carriage_return (take at text) ∷ lines (drop (at + 1) text)

@@ -1,20 +1,6 @@
 -- The numbers of blocks and addresses.
-use Rattle.std.proofs.Common.{◌≡◌, ◌≢◌, ◌↔◌, ◌<◌, ◌≤◌, ◌+◌, ◌-◌, ◌^◌, ◌++◌, ◌∷◌, [], ℕ, List}
-use Rattle.std.proofs.Common.{◌∙◌, refl, sym, ap, subst, arith, length, min, codes, decimal}
-use Rattle.std.proofs.Common.{append_assoc, ⊎_elim}
-use Rattle.std.proofs.Math.Nat.{min-eq_left, min-eq_right}
-use Rattle.std.proofs.Math.Pow.{pow_mono}
-use Rattle.std.proofs.lemmas.Bool.{cases_lt}
-use Rattle.ipnetwork_family.specs.Network.{Network, block_size}
-use Rattle.ipnetwork_blocks.specs.Aggregate.{InUnion}
-use Rattle.ipnetwork_blocks.specs.LeastList.{IsLeastList}
-use Rattle.ipnetwork_blocks.proofs.LeastLists.{least_of_same}
-use Rattle.ipnetwork_sets.specs.CountLaws.{SetHasFewerBlocks}
-use Rattle.ipnetwork_sets.specs.Counts.{HasCount, total}
-use Rattle.ipnetwork_sets.specs.Sets.{InFirstAlone}
-use Rattle.cidr_merge.specs.Answers.{IsLeft, IsCountLine}
-use Rattle.cidr_merge.specs.Private.Totals.{AddUp}
-use Rattle.cidr_merge.specs.declared.command_line.Operation.{Operation}
+use Rattle.cidr_merge.proofs.Words.{◌≡◌, ◌≢◌, ◌↔◌, ◌<◌, ◌≤◌, ◌+◌, ◌-◌, ◌^◌, ◌++◌, ◌∷◌, ℕ, List, ◌∙◌, refl, sym, ap, subst, arith, length, min, decimal, ⊎_elim, min-eq_left, min-eq_right, pow_mono, cases_lt, Network, block_size, InUnion, IsLeastList, least_of_same, SetHasFewerBlocks, HasCount, total, InFirstAlone, IsLeft, IsCount, AddUp, Operation}
+use Rattle.std.proofs.Common.{codes}
 use Rattle.cidr_merge.specs.declared.command_line.Operation.TheVariants as operations
 
 -- the least list of a set is that of its own union, which has fewer blocks than addresses
@@ -112,30 +98,23 @@ at_end count left whole cap e le h =
     let sum : count + left ≡ count = omega (arith, e) in
     sym (min-eq_left le) ∙ ap (λ n. min n cap) (sym sum) ∙ h
 
--- ---- the line of the counts
+-- ---- the counts
 
 -- the count with an upper limit is the true one if that is within the limit
-pub count_line : (w : ℕ) (name counts : List ℕ) (set : ℕ → Type 0) (blocks : List Network)
+pub count_is : (w : ℕ) (counts : List ℕ) (set : ℕ → Type 0) (blocks : List Network)
     (count addresses : ℕ) → IsLeastList w set blocks → AddUp w set blocks → 1 ≤ w → w ≤ 128
     → count ≡ min (length blocks) (2 ^ 128 - 1) → addresses ≡ min (total w blocks) (2 ^ 128)
-    → counts ≡ decimal count ++ codes " " ++ decimal addresses
-    → IsCountLine w name set (name ++ counts ++ 10 ∷ [])
-count_line w name counts set blocks count addresses h sum some bits e f g =
+    → counts ≡ decimal count ++ codes " " ++ decimal addresses → IsCount w set counts
+count_is w counts set blocks count addresses h sum some bits e f g =
     let small : 2 ^ w ≤ 2 ^ 128 = pow_mono bits in
     let fewer = sum.fewer some in
     let within = sum.within in
     let all : count ≡ length blocks = e ∙ min-eq_left (omega (arith, small, fewer)) in
-    let every : addresses ≡ total w blocks = f ∙ min-eq_left (omega (arith, small, within)) in
-    let text : counts ≡ decimal (length blocks) ++ codes " " ++ decimal (total w blocks) =
-    g ∙ ap (λ n. decimal n ++ codes " " ++ decimal addresses) all
-    ∙ ap (λ n. decimal (length blocks) ++ codes " " ++ decimal n) every in (
+    let every : addresses ≡ total w blocks = f ∙ min-eq_left (omega (arith, small, within)) in (
       blocks,
       total w blocks,
       h,
       sum.count,
-      ap (λ t. name ++ t ++ 10 ∷ []) text
-          ∙ ap (λ t. t ++ 10 ∷ [])
-          (sym (append_assoc name (decimal (length blocks) ++ codes " ") (decimal (total w blocks)))
-          ∙ ap (λ t. t ++ decimal (total w blocks)) (sym
-          (append_assoc name (decimal (length blocks)) (codes " ")))),
+      g ∙ ap (λ n. decimal n ++ codes " " ++ decimal addresses) all
+          ∙ ap (λ n. decimal (length blocks) ++ codes " " ++ decimal n) every,
     )

@@ -1,34 +1,22 @@
 -- How whole lists are read.
-use Rattle.std.proofs.Common.{◌≡◌, ◌+◌, ◌<◌, ◌∙◌, ℕ, List, [], ◌∷◌, ◌++◌, refl, sym, ap}
-use Rattle.std.proofs.Common.{subst, arith, length, map, take, drop, get_or, length-take}
-use Rattle.std.specs.Prelude.{Option, None, Some, String}
-use Rattle.std.specs.String.{string_bytes}
-use Rattle.std.proofs.lemmas.List.{map-append, length-map}
-use Rattle.lists.specs.Bytes.{BytesStop}
-use Rattle.lists.specs.KnownLists.{KnownLists}
-use Rattle.lists.specs.declared.bytes.BytesFault.{BytesFault}
+use Rattle.cidr_merge.proofs.Words.{◌≡◌, ◌+◌, ◌<◌, ◌∙◌, ℕ, List, [], ◌∷◌, ◌++◌, refl, sym, ap, subst, arith, length, map, take, drop, get_or, Option, None, Some, String, string_bytes, map-append, length-map, BytesStop, KnownLists, BytesFault, ReadFault, OutOfMemory, text_in, AreTexts, FileStops, IsText, StopsAs, TextStops, TextsStop, not_read}
 use Rattle.lists.specs.declared.bytes.BytesFault.TheVariants as bytes
-use Rattle.lists.specs.declared.named.ReadFault.{ReadFault}
-use Rattle.lists.specs.declared.named.ReadFault.TheVariants.{OutOfMemory}
-use Rattle.cidr_merge.specs.NamedLists.{text_in}
-use Rattle.cidr_merge.specs.Texts.{AreTexts, FileStops, IsText, StopsAs, TextStops, TextsStop}
-use Rattle.cidr_merge.specs.Private.ReadErrors.{not_read}
 use Rattle.cidr_merge.proofs.Places.{up_to_next, cut_at}
 
 -- ---- one list
 
 -- a list was not read
 pub text_stops : (known : KnownLists) (name : List ℕ) (number most : ℕ) (fault : BytesFault)
-    → BytesStop known name most fault → FileStops known number name (not_read number fault)
-text_stops known name number most (bytes.Open cause) h = (refl, h.0, h.1)
-text_stops known name number most bytes.Read h = (refl, h.0, h.1)
+    → BytesStop known name most fault → FileStops known name (not_read number fault)
+text_stops known name number most (bytes.Open cause) h = (h.0, h.1)
+text_stops known name number most bytes.Read h = (h.0, h.1)
 text_stops known name number most bytes.Length h = tt
 text_stops known name number most bytes.OutOfMemory h = tt
 
 -- memory may run out for any
-pub no_memory : (known : KnownLists) (number : ℕ) (name : List ℕ) → TextStops known number name OutOfMemory
-no_memory known number name = by (text_in name) where
-  by : (given : Option (List ℕ)) → StopsAs given known number name OutOfMemory
+pub no_memory : (known : KnownLists) (name : List ℕ) → TextStops known name OutOfMemory
+no_memory known name = by (text_in name) where
+  by : (given : Option (List ℕ)) → StopsAs given known name OutOfMemory
   by (Some text) = refl
   by None = tt
 
@@ -83,20 +71,15 @@ text_more items known names place name word texts text l is w h k =
     (subst (λ (n : List ℕ). IsText known n (items text)) w k))
 
 -- the list at a place was not read
-pub texts_stop : {Z : Type 0} (known : KnownLists) (number place at : ℕ) (names : List (String Z))
-    (name : String Z) (texts : List (List ℕ)) (fault : ReadFault) → place < length names
-    → name ≡ get_or names place name
-    → AreTexts known (take place names) texts → at ≡ number + place
-    → TextStops known at (string_bytes name) fault → TextsStop known number names fault
-texts_stop known number place at names name texts fault l is h e stops =
-    let count : at ≡ number + length (take place names) =
-    omega (arith, e, l, length-take place names) in
-    record {
-      before = take place names;
-      name = name;
-      behind = drop (place + 1) names;
-      texts = texts;
-      cut = cut_at names place name l is;
-      reads = h;
-      stops = subst (λ (n : ℕ). TextStops known n (string_bytes name) fault) count stops;
-    }
+pub texts_stop : {Z : Type 0} (known : KnownLists) (place : ℕ) (names : List (String Z)) (name : String Z)
+    (texts : List (List ℕ)) (fault : ReadFault) → place < length names → name ≡ get_or names place name
+    → AreTexts known (take place names) texts → TextStops known (string_bytes name) fault → TextsStop known names fault
+texts_stop known place names name texts fault l is h stops = record {
+  before = take place names;
+  name = name;
+  behind = drop (place + 1) names;
+  texts = texts;
+  cut = cut_at names place name l is;
+  reads = h;
+  stops = stops;
+}

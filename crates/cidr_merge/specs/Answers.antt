@@ -97,12 +97,18 @@ AreRangeLines {w} names operation family first second text =
     × IsRangeList (IsLeftOfSecond operation w first second) seconds
     × (text ≡ flat_map (range_line names operation family) (merged_ranges firsts seconds))
 
--- the line with the counts of a set, after the given name: the number of blocks of its least list, and the number of
--- its addresses
-abbrev pub IsCountLine : ℕ → List ℕ → (ℕ → Type 0) → List ℕ → Type 0
-IsCountLine w name set text =
+-- the counts of a set: the number of blocks of its least list, and the number of its addresses
+abbrev pub IsCount : ℕ → (ℕ → Type 0) → List ℕ → Type 0
+IsCount w set text =
     (blocks : List Network) × (addresses : ℕ) × IsLeastList w set blocks × HasCount set addresses
-    × (text ≡ name ++ decimal (length blocks) ++ codes " " ++ decimal addresses ++ 10 ∷ [])
+    × (text ≡ decimal (length blocks) ++ codes " " ++ decimal addresses)
+
+-- the line with counts, after the given name
+abbrev pub count_line : List ℕ → List ℕ → List ℕ
+count_line name counts = name ++ counts ++ 10 ∷ []
+
+abbrev pub IsCountLine : ℕ → List ℕ → (ℕ → Type 0) → List ℕ → Type 0
+IsCountLine w name set text = (counts : List ℕ) × IsCount w set counts × (text ≡ count_line name counts)
 
 -- the text is a text for IPv4, followed by one for IPv6
 abbrev pub AreBoth : (List ℕ → Type 0) → (List ℕ → Type 0) → List ℕ → Type 0

@@ -3,17 +3,15 @@ use Rattle.std.specs.Prelude.{ℕ, Bool, List, [], ◌∷◌, ◌++◌, Option, 
 use Rattle.std.specs.Prelude.{if◌then◌else◌, codes, String}
 use Rattle.std.specs.String.{string_bytes}
 use Rattle.program.specs.Words.{count}
-use Rattle.options.specs.Faults.{about}
 use Rattle.options.specs.Given.{is_given}
 use Rattle.options.specs.Items.{items_of}
 use Rattle.options.specs.declared.faults.Fault.{Fault}
-use Rattle.options.specs.declared.faults.Subject.TheVariants as subjects
 use Rattle.options.specs.declared.items.Item.{Item}
 use Rattle.options.specs.declared.items.Mode.TheVariants as modes
 use Rattle.options.specs.declared.table.Row.{Row}
 use Rattle.options.specs.declared.table.Table.{Table}
 use Rattle.cidr_merge.specs.NamedLists.{lists_of}
-use Rattle.cidr_merge.specs.Faults.{fault_of, from_of, no_task_fault}
+use Rattle.cidr_merge.specs.RightWords.{are_wrong, from_of}
 use Rattle.cidr_merge.specs.Forms.{form_of, shape_of, length_of, most_of}
 use Rattle.cidr_merge.specs.Options as own
 use Rattle.cidr_merge.specs.SetNames.{Names, names_of}
@@ -78,41 +76,36 @@ sets_by table others = names_of (first_said table.rows.now others ++ second_said
 abbrev pub sets_of : {Z : Type 0} → Table → List (String Z) → Names
 sets_of table words = sets_by table (drop 1 words)
 
--- the fault, if there is one, else the command and its FILEs
-abbrev pub unless : Option Fault → Command → List (List ℕ) → Result (Command × List (List ℕ)) Fault
-unless None command names = Ok (command, names)
-unless (Some fault) command names = Err fault
+-- the command and its FILEs, unless the words are wrong
+abbrev pub unless : Bool → Command → List (List ℕ) → Option (Command × List (List ℕ))
+unless wrong command names = if wrong then None else Some (command, names)
 
 -- the command of a task, from the number of its `--`, its items, the number of FILEs on the first side, and all FILEs
-abbrev pub command_by : Table → List ℕ → Task → ℕ → List Item → ℕ → List (List ℕ)
-    → Result (Command × List (List ℕ)) Fault
-command_by table name task dashes items middle names =
-    unless (fault_of table task name dashes items middle names) (asked_for task items middle) names
+abbrev pub command_by : Table → Task → ℕ → List Item → ℕ → List (List ℕ) → Option (Command × List (List ℕ))
+command_by table task dashes items middle names =
+    unless (are_wrong table task dashes items middle names) (asked_for task items middle) names
 
 -- the command of a task, from the words after the one that names it
-abbrev pub command_for : {Z : Type 0} → Table → List ℕ → Task → List (String Z)
-    → Result (Command × List (List ℕ)) Fault
-command_for table name task others =
-    command_by table name task (count (codes "--") others)
+abbrev pub command_for : {Z : Type 0} → Table → Task → List (String Z) → Option (Command × List (List ℕ))
+command_for table task others =
+    command_by table task (count (codes "--") others)
     (first_said table.rows.now others ++ second_said table.rows.now others)
     (length (lists_of (first_said table.rows.now others)))
     (lists_of (first_said table.rows.now others)
     ++ from_of task (first_said table.rows.now others ++ second_said table.rows.now others)
     ++ lists_of (second_said table.rows.now others))
 
--- the same, or a fault if the first word names no task
-abbrev pub command_if : {Z : Type 0} → Table → List ℕ → Option Task → List (String Z)
-    → Result (Command × List (List ℕ)) Fault
-command_if table name None others = Err (no_task_fault table.rows.now name)
-command_if table name (Some task) others = command_for table name task others
+abbrev pub command_if : {Z : Type 0} → Table → Option Task → List (String Z) → Option (Command × List (List ℕ))
+command_if table None others = None
+command_if table (Some task) others = command_for table task others
 
 -- the command that the words after the program's name ask for, with its FILEs: those of the first side, the one of
--- `--from`, then those of the second side; or the fault in the words
-abbrev pub command_of : {Z : Type 0} → Table → List (String Z) → Result (Command × List (List ℕ)) Fault
-command_of table [] = Err (about subjects.CommandLine (codes "no operation"))
-command_of table (name ∷ others) = command_if table (string_bytes name) (task_called (string_bytes name)) others
+-- `--from`, then those of the second side; or none, if the words are wrong
+abbrev pub command_of : {Z : Type 0} → Table → List (String Z) → Option (Command × List (List ℕ))
+command_of table [] = None
+command_of table (name ∷ others) = command_if table (task_called (string_bytes name)) others
 
 -- the result of the code's `command_of`, in the form of the definition above
-abbrev pub told_of : Result Asked Fault → Result (Command × List (List ℕ)) Fault
-told_of (Ok asked) = Ok (asked.command, map string_bytes asked.names.items)
-told_of (Err fault) = Err fault
+abbrev pub told_of : Result Asked Fault → Option (Command × List (List ℕ))
+told_of (Ok asked) = Some (asked.command, map string_bytes asked.names.items)
+told_of (Err fault) = None

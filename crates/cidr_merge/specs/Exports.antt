@@ -24,7 +24,8 @@ address_type V6 = codes "ipv6_addr"
 
 -- the text at a place around the blocks; empty in all cases not listed. For nftables, it creates the table and the sets
 -- if they do not exist, and flushes the sets before elements are added. For ipset, it creates the sets of both families
--- if they do not exist, and new sets, which replace the old ones once both are filled, that of IPv6 first: ipset does not
+-- if they do not exist, and new sets, which replace the old ones once both are filled, that of IPv6 first: ipset does
+-- not
 -- see before the swap that a set without `family inet6` has its name. An `Opening` has `true` if blocks
 -- of the other family come before it
 abbrev pub frame_text : Names → Export → Frame → List ℕ

@@ -1,5 +1,5 @@
 -- The words of a `find`: addresses, and lists that are searched for them.
-use Rattle.std.specs.Prelude.{◌≡◌, ℕ, ◌+◌, List, [], ◌∷◌, ◌++◌, length, map, String}
+use Rattle.std.specs.Prelude.{◌≡◌, ℕ, List, [], ◌∷◌, ◌++◌, map, String}
 use Rattle.std.specs.List.{zip}
 use Rattle.std.specs.String.{string_bytes}
 use Rattle.ipnetwork_addr.specs.Either.{NamesIp}
@@ -19,20 +19,15 @@ AreAddresses (word ∷ words) (address ∷ addresses) =
 abbrev pub with_addresses : {Z : Type 0} → List (String Z) → List IpAddr → List (List ℕ × IpAddr)
 with_addresses words addresses = zip (map string_bytes words) addresses
 
--- the word at index `place` is the first that is not the text of an address; the first of these words has the index
--- `first`
-pub record IsFirstWrong {Z : Type 0} (first : ℕ) (words : List (String Z))
-    (place : ℕ) : Type 0 where
+-- one of the words is not the text of an address
+pub record HasNoAddress {Z : Type 0} (words : List (String Z)) : Type 0 where
   pub before : List (String Z)
   pub word : String Z
   pub behind : List (String Z)
-  pub addresses : List IpAddr
   pub cut : words ≡ before ++ word ∷ behind
-  pub count : place ≡ first + length before
-  pub right : AreAddresses before addresses
   pub wrong : (address : IpAddr) → ¬ (NamesIp (string_bytes word) address)
 
 -- the words are not accepted: one is not an address, or memory ran out
-abbrev pub StopsAtWord : {Z : Type 0} → ℕ → List (String Z) → QueryFault → Type 0
-StopsAtWord first words (NotAnAddress place) = IsFirstWrong first words place
-StopsAtWord first words OutOfMemory = Unit {0}
+abbrev pub StopsAtWord : {Z : Type 0} → List (String Z) → QueryFault → Type 0
+StopsAtWord words (NotAnAddress place) = HasNoAddress words
+StopsAtWord words OutOfMemory = Unit {0}

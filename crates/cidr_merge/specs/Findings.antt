@@ -35,10 +35,6 @@ refusal_text name number fault line =
     place_text name number ++ codes ": refused " ++ line_fault_text fault
     ++ separator (line_shown fault line) ++ escaped (line_shown fault line) ++ codes "\n"
 
--- the report of a refused line on standard error: the finding, after the name of the program
-abbrev pub refusal_report : List ℕ → ℕ → LineFault → List ℕ → List ℕ
-refusal_report name number fault line = codes "cidr_merge: " ++ refusal_text name number fault line
-
 -- whether an entry is a network with host bits: its address is after the first address of the block
 abbrev pub has_host_bits : Option Entry → Bool
 has_host_bits None = false

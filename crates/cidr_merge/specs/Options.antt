@@ -52,44 +52,26 @@ most = 13
 abbrev pub maxelem : ℕ
 maxelem = 14
 
--- the message for a value of `--set` or `--table` that is not a name
-abbrev pub no_name : List ℕ
-no_name = codes "not a name of 1 to 22 letters, digits, _, - and ., the first a letter"
-
 -- the options, in the order of their rows
 abbrev pub entries : List Entry
 entries =
-    long_flag (codes "--ranges") ∷ long_flag (codes "--count")
-    ∷ long (codes "--format") kinds.Text true
-    (codes "not a form; the forms are plain, range, netmask, wildcard, csv, nft, ipset, json and addresses")
+    long_flag (codes "--ranges") ∷ long_flag (codes "--count") ∷ long (codes "--format") kinds.Text true
     ∷ long_flag (codes "--skip-bad") ∷ long_flag (codes "--json") ∷ long_flag (codes "--strict")
-    ∷ long (codes "--set") kinds.Text true no_name ∷ long (codes "--table") kinds.Text true no_name
-    ∷ long (codes "--line-prefix") kinds.Text true [] ∷ long (codes "--line-suffix") kinds.Text true []
-    ∷ long (codes "--prefix") kinds.Text true (codes "not a prefix length, 0 to 128")
-    ∷ long (codes "--from") kinds.File true (codes "not a file name")
-    ∷ valued (codes "e") kinds.Text (codes "not a network or range")
-    ∷ long (codes "--most") kinds.Number true (codes "not a number from 1")
-    ∷ long (codes "--maxelem") kinds.Number true (codes "not a number from 1 to 4294967295")
-    ∷ alone (codes "--help") (codes "not the only argument")
-    ∷ alone (codes "--version") (codes "not the only argument")
-    ∷ alone (codes "--quiet") (codes "taken only once, as the first word") ∷ []
+    ∷ long (codes "--set") kinds.Text true ∷ long (codes "--table") kinds.Text true
+    ∷ long (codes "--line-prefix") kinds.Text true ∷ long (codes "--line-suffix") kinds.Text true
+    ∷ long (codes "--prefix") kinds.Text true ∷ long (codes "--from") kinds.File true ∷ valued (codes "e") kinds.Text
+    ∷ long (codes "--most") kinds.Number true ∷ long (codes "--maxelem") kinds.Number true ∷ alone (codes "--help")
+    ∷ alone (codes "--version") ∷ alone (codes "--quiet") ∷ []
 
 -- the pairs of options that exclude each other: two output forms, or an option with a value given twice
-abbrev pub another_form : List ℕ
-another_form = codes "--format: given twice, or together with --ranges or --count"
-
-abbrev pub pairs : List (ℕ × ℕ × List ℕ)
-pairs = (ranges, count, codes "--ranges: not together with --count") ∷ (format, format, another_form)
-    ∷ (format, ranges, another_form) ∷ (format, count, another_form)
-    ∷ (prefix, prefix, codes "--prefix: given twice")
-    ∷ (set, set, codes "--set: given twice") ∷ (table, table, codes "--table: given twice")
-    ∷ (before, before, codes "--line-prefix: given twice") ∷ (after, after, codes "--line-suffix: given twice")
-    ∷ (from, from, codes "--from: given twice") ∷ (most, most, codes "--most: given twice")
-    ∷ (maxelem, maxelem, codes "--maxelem: given twice") ∷ []
+abbrev pub pairs : List (ℕ × ℕ)
+pairs =
+    (ranges, count) ∷ (format, format) ∷ (format, ranges) ∷ (format, count) ∷ (prefix, prefix) ∷ (set, set)
+    ∷ (table, table) ∷ (before, before) ∷ (after, after) ∷ (from, from) ∷ (most, most) ∷ (maxelem, maxelem) ∷ []
 
 -- the table has these options and pairs
 abbrev pub IsOptions : Table → Type 0
-IsOptions options = IsTable options entries pairs [] []
+IsOptions options = IsTable options entries pairs []
 
 -- the options that a task takes, by the indices of their rows
 abbrev pub taken : Task → List ℕ

@@ -1,97 +1,139 @@
--- The valid command lines, and what they ask for, defined as relations.
-use Rattle.std.specs.Prelude.{◌≡◌, ◌≢◌, ◌↔◌, ◌≤◌, ℕ, Bool, true, false, List, [], ◌∷◌, ◌++◌, Some, Ok, length, codes}
-use Rattle.std.specs.Prelude.{IsTrue, String}
-use Rattle.std.specs.List.{AllByRecursion}
+-- Which words of a command line are right.
+use Rattle.std.specs.Prelude.{ℕ, ◌+◌, ◌-◌, ◌==◌, ◌&&◌, ◌||◌, Bool, true, false, not, List, [], ◌∷◌}
+use Rattle.std.specs.Prelude.{length, drop, nat_lt, if◌then◌else◌, codes, bytes_eq}
+use Rattle.std.specs.List.{list_any, count_by}
 use Rattle.std.specs.Option.{is_some}
-use Rattle.std.specs.String.{string_bytes}
-use Rattle.options.specs.Faults.{are_both}
-use Rattle.options.specs.Given.{is_given}
-use Rattle.options.specs.Grammar.{Says}
+use Rattle.options.specs.Faults.{pair_fault}
+use Rattle.options.specs.Given.{is_given, value_of}
 use Rattle.options.specs.declared.items.Item.{Item}
 use Rattle.options.specs.declared.items.Item.TheVariants as says
-use Rattle.options.specs.declared.table.Pair.{Pair}
-use Rattle.options.specs.declared.table.Row.{Row}
 use Rattle.options.specs.declared.table.Table.{Table}
-use Rattle.program.specs.Words.{count}
-use Rattle.cidr_merge.specs.NamedLists.{lists_of}
-use Rattle.cidr_merge.specs.CommandLines.{asked_for, command_of}
-use Rattle.cidr_merge.specs.Faults.{is_exported, files_among, from_of, has_limit, has_lines, has_sets, has_table}
-use Rattle.cidr_merge.specs.Faults.{takes, times_named}
 use Rattle.cidr_merge.specs.Forms.{form_called, form_of, most_in, prefix_in}
+use Rattle.cidr_merge.specs.NamedLists.{file_name}
 use Rattle.cidr_merge.specs.Options as own
+use Rattle.cidr_merge.specs.Options.{taken}
 use Rattle.cidr_merge.specs.SetNames.{is_limit, is_set_name}
-use Rattle.cidr_merge.specs.Tasks.{is_two_sided, task_called}
-use Rattle.cidr_merge.specs.declared.command_line.Command.{Command}
-use Rattle.cidr_merge.specs.declared.command_line.Form.TheVariants.{Blocks}
+use Rattle.cidr_merge.specs.Tasks.{is_two_sided}
+use Rattle.cidr_merge.specs.declared.command_line.Form.{Form}
+use Rattle.cidr_merge.specs.declared.command_line.Form.TheVariants.{Blocks, Counts, Exported}
 use Rattle.cidr_merge.specs.declared.command_line.Operation.TheVariants as operations
+use Rattle.cidr_merge.specs.declared.exports.Export.TheVariants.{Csv, Nft, Ipset, Json}
 use Rattle.cidr_merge.specs.declared.tasks.Task.{Task}
 use Rattle.cidr_merge.specs.declared.tasks.Task.TheVariants as tasks
 
--- the items that the words after the first mean: one side, without a `--`, or two sides with one `--` between them
-pub data SaySides {Z : Type 0} (rows : List Row) : Bool → List (String Z) → List Item → List Item → Type 0 where
-  OneSide : (words : List (String Z)) (items : List Item) → count (codes "--") words ≡ 0 → Says rows words items
-      → SaySides rows false words items []
-  TwoSides : (before behind : List (String Z)) (dashes : String Z) (first second : List Item)
-      → count (codes "--") before ≡ 0 → string_bytes dashes ≡ codes "--" → count (codes "--") behind ≡ 0
-      → Says rows before first → Says rows behind second
-      → SaySides rows true (before ++ dashes ∷ behind) first second
+-- ---- options
 
--- the text is a valid value of the option of a row
-pub record IsValue (row : ℕ) (text : List ℕ) : Type 0 where
-  pub form : row ≡ own.format → IsTrue (is_some (form_called text))
-  pub prefix : row ≡ own.prefix → IsTrue (is_some (prefix_in text))
-  pub most : row ≡ own.most → IsTrue (is_some (most_in text))
-  pub set : row ≡ own.set → IsTrue (is_set_name text)
-  pub table : row ≡ own.table → IsTrue (is_set_name text)
-  pub maxelem : row ≡ own.maxelem → IsTrue (is_limit text)
-  pub from : row ≡ own.from → text ≢ []
-  pub entry : row ≡ own.text → text ≢ []
+-- whether the task takes the option of a row
+abbrev pub takes : Task → ℕ → Bool
+takes task row = list_any (λ one. one == row) (taken task)
 
--- the item is a FILE, or an option that the task takes, with a valid value if it has one
-pub data IsRightItem (task : Task) : Item → Type 0 where
-  AFlag : (row : ℕ) → IsTrue (takes task row) → IsRightItem task (says.Flag row)
-  AValue : (row : ℕ) (text : List ℕ) → IsTrue (takes task row) → IsValue row text
-      → IsRightItem task (says.Value row text)
-  AJoined : (row : ℕ) (text word : List ℕ) → IsTrue (takes task row) → IsValue row text
-      → IsRightItem task (says.Joined row text word)
-  AFile : (name : List ℕ) → IsRightItem task (says.File name)
+-- whether a text is a valid value of the option of a row
+abbrev pub is_value : ℕ → List ℕ → Bool
+is_value row text =
+    if row == own.format then is_some (form_called text)
+    else if row == own.prefix then is_some (prefix_in text)
+    else if row == own.most then is_some (most_in text)
+    else if row == own.set || row == own.table then is_set_name text
+    else if row == own.maxelem then is_limit text
+    else if row == own.from || row == own.text then not (length text == 0)
+    else true
 
--- the options of both sides, and the FILEs of each side, are valid: no two options exclude each other, every option is
--- given that the task or another option needs, each side has FILEs, no FILE has an empty name, and standard input is
--- read at most once
-pub record AreRight (table : Table) (task : Task) (items : List Item) (first second : List (List ℕ)) : Type 0 where
-  pub each : AllByRecursion (IsRightItem task) items
-  pub apart : AllByRecursion (λ (pair : Pair). are_both items pair ≡ false) table.pairs.now
-  pub strict : IsTrue (takes task own.json) → IsTrue (is_given items own.strict) → IsTrue (is_given items own.json)
-  pub form : task ≡ tasks.Merge operations.Differ → is_exported (form_of Blocks items) ≡ false
-  pub prefix : task ≡ tasks.Split → IsTrue (is_given items own.prefix)
-  pub most : task ≡ tasks.Reduce → IsTrue (is_given items own.most)
-  pub sets : IsTrue (is_given items own.set) → IsTrue (has_sets (form_of Blocks items))
-  pub sets_table : IsTrue (is_given items own.table) → IsTrue (has_table (form_of Blocks items))
-  pub limit : IsTrue (is_given items own.maxelem) → IsTrue (has_limit (form_of Blocks items))
-  pub before : IsTrue (is_given items own.before) → IsTrue (has_lines (form_of Blocks items))
-  pub after : IsTrue (is_given items own.after) → IsTrue (has_lines (form_of Blocks items))
-  pub some : first ++ from_of task items ≢ []
-  pub others : IsTrue (is_two_sided task) → second ≢ []
-  pub named : times_named [] (files_among task (length first) (first ++ from_of task items ++ second)) ≡ 0
-  pub input : times_named (codes "-") (files_among task (length first) (first ++ from_of task items ++ second)) ≤ 1
+-- whether an item is an option that the task does not take, or that has no value or a wrong one, or is no option
+abbrev pub is_wrong : Task → Item → Bool
+is_wrong task (says.Flag row) = not (takes task row)
+is_wrong task (says.Value row text) = not (takes task row) || not (is_value row text)
+is_wrong task (says.Joined row text word) = not (takes task row) || not (is_value row text)
+is_wrong task (says.File name) = false
+is_wrong task (says.Unknown word) = true
+is_wrong task (says.Lacks row) = true
 
--- the words are valid, and ask for this command with these FILEs
-pub record AskFor {Z : Type 0} (table : Table) (words : List (String Z)) (command : Command)
-    (names : List (List ℕ)) : Type 0 where
-  pub name : String Z
-  pub others : List (String Z)
-  pub task : Task
-  pub first : List Item
-  pub second : List Item
-  pub cut : words ≡ name ∷ others
-  pub called : task_called (string_bytes name) ≡ Some task
-  pub say : SaySides table.rows.now (is_two_sided task) others first second
-  pub right : AreRight table task (first ++ second) (lists_of first) (lists_of second)
-  pub asked : command ≡ asked_for task (first ++ second) (length (lists_of first))
-  pub files : names ≡ lists_of first ++ from_of task (first ++ second) ++ lists_of second
+-- whether `--strict` is given without the `--json` that it needs
+abbrev pub lacks_json : Task → List Item → Bool
+lacks_json task items = takes task own.json && is_given items own.strict && not (is_given items own.json)
 
--- words are accepted exactly if they are valid, and then give the command and the FILEs that they ask for
-abbrev pub RightWordsAreTaken : {Z : Type 0} → Table → List (String Z) → Type 0
-RightWordsAreTaken table words = (command : Command) (names : List (List ℕ))
-    → (command_of table words ≡ Ok (command, names)) ↔ AskFor table words command names
+-- whether a `split` has no prefix length, or a `reduce` no number of networks
+abbrev pub lacks_value : Task → List Item → Bool
+lacks_value tasks.Split items = not (is_given items own.prefix)
+lacks_value tasks.Reduce items = not (is_given items own.most)
+lacks_value task items = false
+
+-- the forms that other programs read, which cannot show the two sides of a `differ`
+abbrev pub is_exported : Form → Bool
+is_exported (Exported export) = true
+is_exported form = false
+
+abbrev pub cannot_print : Task → Form → Bool
+cannot_print (tasks.Merge operations.Differ) form = is_exported form
+cannot_print task form = false
+
+-- whether a form has sets, and whether it has a table, which an option can name; and whether its sets have a limit
+abbrev pub has_sets : Form → Bool
+has_sets (Exported Nft) = true
+has_sets (Exported Ipset) = true
+has_sets form = false
+
+abbrev pub has_table : Form → Bool
+has_table (Exported Nft) = true
+has_table form = false
+
+abbrev pub has_limit : Form → Bool
+has_limit (Exported Ipset) = true
+has_limit form = false
+
+-- whether a form has lines with a text before and after each
+abbrev pub has_lines : Form → Bool
+has_lines Counts = false
+has_lines (Exported Csv) = false
+has_lines (Exported Nft) = false
+has_lines (Exported Ipset) = false
+has_lines (Exported Json) = false
+has_lines form = true
+
+-- whether an option names a set or a table, gives a limit, or gives a text around lines, in a form that has none
+abbrev pub are_misplaced : List Item → Form → Bool
+are_misplaced items form =
+    is_given items own.set && not (has_sets form) || (is_given items own.table && not (has_table form)
+    || (is_given items own.maxelem && not (has_limit form) || (is_given items own.before && not (has_lines form)
+    || is_given items own.after && not (has_lines form))))
+
+-- whether options do not go together
+abbrev pub do_clash : Table → Task → List Item → Bool
+do_clash table task items =
+    is_some (pair_fault items table.pairs.now) || (lacks_json task items || (cannot_print task (form_of Blocks items)
+    || (lacks_value task items || are_misplaced items (form_of Blocks items))))
+
+-- ---- lists
+
+-- whether the sides are wrong, from the number of `--` and of FILEs on each side. If the task has one side: a `--`, or
+-- no FILE. If it has two: no `--`, more than one, or nothing before or after it
+abbrev pub are_wrong_sides : Task → ℕ → ℕ → ℕ → Bool
+are_wrong_sides task dashes first second =
+    if not (is_two_sided task) then nat_lt 0 dashes || first == 0
+    else dashes == 0 || (nat_lt 1 dashes || (first == 0 || second == 0))
+
+-- how many names are this text
+abbrev pub times_named : List ℕ → List (List ℕ) → ℕ
+times_named text names = count_by (λ name. bytes_eq name text) names
+
+-- whether a name of a list is empty, or standard input is named twice
+abbrev pub are_wrong_files : List (List ℕ) → Bool
+are_wrong_files files = nat_lt 0 (times_named [] files) || nat_lt 1 (times_named (codes "-") files)
+
+-- the names of lists among all names: all of them, except that the words before the `--` of a `find` are addresses
+abbrev pub files_among : {X : Type 0} → Task → ℕ → List X → List X
+files_among tasks.Find middle names = drop middle names
+files_among task middle names = names
+
+-- the FILE of the `--from` of a `find`
+abbrev pub from_of : Task → List Item → List (List ℕ)
+from_of tasks.Find items = if is_given items own.from then file_name (value_of items own.from) ∷ [] else []
+from_of task items = []
+
+-- ---- all words
+
+-- whether the words of a task are wrong: an option, options together, the sides, or the names of lists
+abbrev pub are_wrong : Table → Task → ℕ → List Item → ℕ → List (List ℕ) → Bool
+are_wrong table task dashes items middle names =
+    ((list_any (is_wrong task) items || do_clash table task items)
+    || are_wrong_sides task dashes (middle + length (from_of task items))
+    (length names - middle - length (from_of task items))) || are_wrong_files (files_among task middle names)

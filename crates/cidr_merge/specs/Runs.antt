@@ -1,17 +1,15 @@
--- How a merge ends: its exit status, what was written, and what was reported.
-use Rattle.std.specs.Prelude.{◌≡◌, ℕ, List, [], Bool, true, false, not, ◌&&◌, ◌⊎◌, if◌then◌else◌, String, codes}
+-- How a merge ends: its exit status, and what was written.
+use Rattle.std.specs.Prelude.{◌≡◌, ℕ, List, Bool, true, false, not, ◌&&◌, ◌⊎◌, if◌then◌else◌, String}
 use Rattle.lists.specs.Refusals.{Refused}
 use Rattle.ipnetwork_sets.specs.Equality.{same_blocks}
 use Rattle.lines.specs.Outputs.{Written}
-use Rattle.program.specs.Endings.{Ending, IsSilent, HasTold, HasWritten}
 use Rattle.lists.specs.KnownLists.{KnownLists}
-use Rattle.program.specs.Messages.{Reports}
-use Rattle.program.specs.Reported.{was_refused, fault_text, in_list, refusals_text}
+use Rattle.program.specs.Reported.{was_refused}
 use Rattle.lists.specs.declared.named.ReadFault.{ReadFault}
 use Rattle.cidr_merge.specs.Answers.{IsAnswer}
 use Rattle.cidr_merge.specs.Reading.{ReadsSides}
 use Rattle.cidr_merge.specs.Stopping.{StopsInSides}
-use Rattle.cidr_merge.specs.Writing.{FailsToWrite}
+use Rattle.cidr_merge.specs.Writing.{EndsSilently, EndsWriting}
 use Rattle.cidr_merge.specs.declared.command_line.Operation.{Operation}
 use Rattle.cidr_merge.specs.declared.command_line.Operation.TheVariants.{Union, Common, Minus}
 use Rattle.cidr_merge.specs.declared.command_line.Operation.TheVariants.{Differ}
@@ -33,35 +31,19 @@ abbrev pub answer_status : Operation → Bool → Sets → Sets → ℕ
 answer_status operation skips first second =
     if skips then 3 else if are_unequal operation first second then 1 else 0
 
--- the result was written, and nothing more was reported
-abbrev pub WritesAnswer : {W E : Type 0} → Names → Request → Bool → Sets → Sets → Ending W E → Type 0
-WritesAnswer sets request skips first second end =
-    (text : List ℕ) × IsAnswer sets request.operation request.form first second text
-    × HasWritten end text × HasTold end []
-    × (end.status ≡ answer_status request.operation skips first second)
-
 -- the lists of both sides were read: if lines were refused and are not to be skipped, nothing is written; otherwise the
 -- result is written, unless the writer fails
-abbrev pub EndsAnswering : {W E : Type 0} → Names → Request → Bool → Sets → Sets → Ending W E → Type 0
-EndsAnswering sets request skips first second end =
-    ((skips && not request.skips_bad ≡ true) × IsSilent end × HasTold end [])
+abbrev pub EndsAnswering : {W : Type 0} → Names → Request → Bool → Sets → Sets → Written W → Written W → ℕ → Type 0
+EndsAnswering sets request skips first second old new status =
+    ((skips && not request.skips_bad ≡ true) × EndsSilently old new status)
     ⊎ ((skips && not request.skips_bad ≡ false)
-    × (FailsToWrite end ⊎ WritesAnswer sets request skips first second end))
+    × (text : List ℕ) × IsAnswer sets request.operation request.form first second text
+    × EndsWriting old new status text (answer_status request.operation skips first second))
 
--- the lists were not read to their ends, after these lines were refused: nothing was written, and the cause was
--- reported
-abbrev pub StopsReading : {Z W E : Type 0} → KnownLists → List (String Z) → Request → Refused
-    → Ending W E → Type 0
-StopsReading known words request refused end =
-    (fault : ReadFault) × StopsInSides known words request fault refused × IsSilent end
-    × HasTold end (fault_text (codes "cidr_merge") words fault)
-
--- the refused lines were reported; then either the cause for which the reading stopped was reported, or the result was
--- written
-abbrev pub EndsMerging : {Z W E : Type 0} → KnownLists → List (String Z) → Names → Request → Ending W E
+-- a list was not read to its end, and nothing was written; or all were read, and the result was written
+abbrev pub EndsMerging : {Z W : Type 0} → KnownLists → List (String Z) → Names → Request → Written W → Written W → ℕ
     → Type 0
-EndsMerging {Z} {W} {E} known words sets request end = (refused : Refused) × (told : Written E)
-    × Reports end.errors told (refusals_text (codes "cidr_merge") words in_list refused)
-    × (StopsReading known words request refused (record end { errors = told })
-    ⊎ ((first second : Sets) × ReadsSides known words request first second refused
-    × EndsAnswering sets request (was_refused refused) first second (record end { errors = told })))
+EndsMerging known words sets request old new status =
+    ((fault : ReadFault) × StopsInSides known words request fault × EndsSilently old new status)
+    ⊎ ((first second : Sets) × (refused : Refused) × ReadsSides known words request first second refused
+    × EndsAnswering sets request (was_refused refused) first second old new status)

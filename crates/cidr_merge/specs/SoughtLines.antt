@@ -1,16 +1,9 @@
 -- The addresses in lists of addresses, one on a line.
-use Rattle.std.specs.Prelude.{ℕ, Bool, true, false, List, [], ◌∷◌, Option, None, Some, if◌then◌else◌, String}
-use Rattle.std.specs.List.{flat_map}
+use Rattle.std.specs.Prelude.{ℕ, Bool, true, false, List, [], ◌∷◌, Option, None, Some}
+use Rattle.std.specs.List.{flat_map, list_any}
 use Rattle.ipnetwork_addr.specs.Computed.Either.{ip_of}
 use Rattle.ipnetwork_addr.specs.declared.ip.IpAddr.{IpAddr}
-use Rattle.lists.specs.Encodings.{encoding_of}
-use Rattle.lists.specs.Entries.{told_cause}
 use Rattle.lists.specs.Lines.{trimmed}
-use Rattle.lists.specs.declared.entry.EntryFault.{EntryFault}
-use Rattle.lists.specs.declared.entry.EntryFault.TheVariants as causes
-use Rattle.lists.specs.declared.fault.LineFault.TheVariants as faults
-use Rattle.program.specs.Reported.{name_at}
-use Rattle.cidr_merge.specs.Findings.{refusal_report}
 use Rattle.cidr_merge.specs.NumberedLines.{NumberedLine, numbered_lines}
 
 -- a text with the address that it names, if it names one
@@ -34,19 +27,13 @@ is_other text (Some address) = false
 is_other [] None = false
 is_other (byte ∷ text) None = true
 
--- why such a text is refused: its encoding, if it is not plain text
-abbrev pub other_cause : List ℕ → EntryFault
-other_cause text = told_cause (encoding_of text) causes.Address
+-- whether a line has such a text, without the blanks around it
+abbrev pub is_other_line : List ℕ → Bool
+is_other_line line = is_other (trimmed line) (ip_of (trimmed line))
 
--- the report of a line that has such a text
-abbrev pub others_by : List ℕ → ℕ → List ℕ → List (List ℕ)
-others_by name number line =
-    if is_other (trimmed line) (ip_of (trimmed line))
-    then refusal_report name number (faults.Entry (other_cause (trimmed line))) line ∷ [] else []
+abbrev pub line_is_other : NumberedLine → Bool
+line_is_other line = is_other_line line.text
 
-abbrev pub line_others : {Z : Type 0} → List (String Z) → NumberedLine → List (List ℕ)
-line_others names line = others_by (name_at names line.list) line.number line.text
-
--- the reports of all lines of the lists of these names and bytes
-abbrev pub lists_others : {Z : Type 0} → List (String Z) → List (List ℕ) → List (List ℕ)
-lists_others names texts = flat_map (line_others names) (numbered_lines 0 texts)
+-- whether a line of the lists of these bytes has such a text
+abbrev pub has_other : List (List ℕ) → Bool
+has_other texts = list_any line_is_other (numbered_lines 0 texts)

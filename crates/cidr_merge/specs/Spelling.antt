@@ -1,5 +1,5 @@
 -- The words of a command line with `reduce N` spelled out.
-use Rattle.std.specs.Prelude.{ℕ, ◌&&◌, Bool, false, List, [], ◌∷◌, bytes_eq, codes, if◌then◌else◌, take, drop, ◌++◌}
+use Rattle.std.specs.Prelude.{ℕ, ◌&&◌, Bool, false, List, ◌∷◌, bytes_eq, codes, if◌then◌else◌, take, drop, ◌++◌}
 use Rattle.std.specs.Option.{is_some}
 use Rattle.options.specs.Values.{number_in}
 

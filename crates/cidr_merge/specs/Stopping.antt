@@ -14,22 +14,22 @@ use Rattle.cidr_merge.specs.declared.reading.Sets.{Sets}
 -- the lists of these names, the first of which has this number, are read in turn up to one at which the reading
 -- stops
 pub record Stops {Z : Type 0} (from : Source) (number : ℕ) (names : List (String Z))
-    (before : ReadLists) (fault : ReadFault) (refused : Refused) : Type 0 where
+    (before : ReadLists) (fault : ReadFault) : Type 0 where
   pub first : List (String Z)
   pub name : String Z
   pub others : List (String Z)
   pub between : ReadLists
+  pub refused : Refused
   pub cut : names ≡ first ++ name ∷ others
   pub reads : ReadsLists from number first before between
   pub memory : between.is_out_of_memory ≡ false
   pub stops : StopsOne from (number + length first) (string_bytes name) between fault refused
 
 -- the reading stops at a list of the first side, or, if those were read, at one of the second
-abbrev pub StopsInSides : {Z : Type 0} → KnownLists → List (String Z) → Request → ReadFault
-    → Refused → Type 0
-StopsInSides known words request fault refused =
-    Stops (source known request.shape) 0 (take request.middle words) (nothing_read no_refusals) fault refused
+abbrev pub StopsInSides : {Z : Type 0} → KnownLists → List (String Z) → Request → ReadFault → Type 0
+StopsInSides known words request fault =
+    Stops (source known request.shape) 0 (take request.middle words) (nothing_read no_refusals) fault
     ⊎ ((first : Sets) × (between : Refused)
     × ReadsSide (source known request.shape) 0 (take request.middle words) no_refusals first between
     × Stops (source known request.shape) request.middle (drop request.middle words)
-    (nothing_read between) fault refused)
+    (nothing_read between) fault)

@@ -1,5 +1,5 @@
 -- The bytes of whole lists.
-use Rattle.std.specs.Prelude.{◌≡◌, ℕ, ◌+◌, true, false, List, [], ◌∷◌, ◌++◌, length, Option, None, Some, String}
+use Rattle.std.specs.Prelude.{◌≡◌, ℕ, true, false, List, [], ◌∷◌, ◌++◌, Option, None, Some, String}
 use Rattle.std.specs.String.{string_bytes}
 use Rattle.lists.specs.Bytes.{IsAllOf}
 use Rattle.lists.specs.KnownLists.{KnownLists}
@@ -24,36 +24,32 @@ AreTexts known (name ∷ names) (text ∷ texts) =
 AreTexts known [] (text ∷ texts) = ⊥
 AreTexts known (name ∷ names) [] = ⊥
 
--- the FILE of this name cannot be read to its end; the fault has its number
-abbrev pub FileStops : KnownLists → ℕ → List ℕ → ReadFault → Type 0
+-- the FILE of this name cannot be read to its end
+abbrev pub FileStops : KnownLists → List ℕ → ReadFault → Type 0
 -- it is not opened, for this cause
-FileStops known number name (Open place cause) =
-    (place ≡ number) × known.may_open name false × known.may_miss name cause
+FileStops known name (Open place cause) = known.may_open name false × known.may_miss name cause
 -- a read of it fails
-FileStops known number name (Read place) =
-    (place ≡ number) × known.may_open name true × known.may_fail name
+FileStops known name (Read place) = known.may_open name true × known.may_fail name
 -- it may have any length and any text
-FileStops known number name (Length place) = ⊥
-FileStops known number name (NotJson place line) = ⊥
+FileStops known name (Length place) = ⊥
+FileStops known name (NotJson place line) = ⊥
 -- memory runs out for it
-FileStops known number name OutOfMemory = Unit {0}
+FileStops known name OutOfMemory = Unit {0}
 
 -- nor is that of a TEXT: only memory runs out for it
-abbrev pub StopsAs : Option (List ℕ) → KnownLists → ℕ → List ℕ → ReadFault → Type 0
-StopsAs (Some given) known number name fault = fault ≡ OutOfMemory
-StopsAs None known number name fault = FileStops known number name fault
+abbrev pub StopsAs : Option (List ℕ) → KnownLists → List ℕ → ReadFault → Type 0
+StopsAs (Some given) known name fault = fault ≡ OutOfMemory
+StopsAs None known name fault = FileStops known name fault
 
-abbrev pub TextStops : KnownLists → ℕ → List ℕ → ReadFault → Type 0
-TextStops known number name fault = StopsAs (text_in name) known number name fault
+abbrev pub TextStops : KnownLists → List ℕ → ReadFault → Type 0
+TextStops known name fault = StopsAs (text_in name) known name fault
 
--- the lists of these names, the first of which has this number, are read up to one that cannot be
--- read
-pub record TextsStop {Z : Type 0} (known : KnownLists) (number : ℕ) (names : List (String Z))
-    (fault : ReadFault) : Type 0 where
+-- the lists of these names are read up to one that cannot be read
+pub record TextsStop {Z : Type 0} (known : KnownLists) (names : List (String Z)) (fault : ReadFault) : Type 0 where
   pub before : List (String Z)
   pub name : String Z
   pub behind : List (String Z)
   pub texts : List (List ℕ)
   pub cut : names ≡ before ++ name ∷ behind
   pub reads : AreTexts known before texts
-  pub stops : TextStops known (number + length before) (string_bytes name) fault
+  pub stops : TextStops known (string_bytes name) fault

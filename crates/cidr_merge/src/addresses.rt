@@ -1,7 +1,5 @@
 //! Prints addresses.
-ghost use Rattle.std.specs.Prelude.{◌≡◌, ◌||◌, OnOk, is_err};
 ghost use Rattle.std.specs.List.{flat_map};
-ghost use Rattle.lines.specs.Outputs.{Prints};
 ghost use Rattle.program.specs.Putting.{PutsOrFails};
 ghost use Rattle.cidr_merge.specs.Exports.{address_line};
 
@@ -18,9 +16,8 @@ pub(crate) fn print_addresses<A: Address, W: Write>(
     mut addresses: NetworkIterator<A>,
     output: &mut Output<'_, W>,
 ) -> Result<(), RunFault>
-    ensures text { OnOk result (Prints output.old output.new
-        (flat_map (address_line names.now A.family) addresses)) }
-    ensures failed { output.new.failed ≡ (output.old.failed || is_err result) }
+    ensures { PutsOrFails result output.old output.new
+        (flat_map (address_line names.now A.family) addresses) }
 {
     while let Some(address) = addresses.next() {
         put_address(names, address, output)?;

@@ -1,13 +1,14 @@
 //! What the words of a command line ask for.
 ghost use Rattle.std.specs.Prelude.{◌≡◌, ◌≤◌, ◌+◌, ◌++◌, ℕ, length, map, IfOk, OnOk};
 ghost use Rattle.std.specs.String.{string_bytes};
-ghost use Rattle.cidr_merge.specs.Faults.{from_of};
+ghost use Rattle.cidr_merge.specs.RightWords.{from_of};
 ghost use Rattle.cidr_merge.specs.CommandLines.{request_of, inspection_of, asked_for};
 ghost use Rattle.cidr_merge.specs.CommandLines.{command_for, command_of, told_of, sets_by, sets_of};
 ghost use Rattle.cidr_merge.specs.Forms.{form_called, form_of, shape_of, without_plus};
 ghost use Rattle.cidr_merge.specs.Forms.{prefix_in, length_of, most_in, most_of};
 ghost use Rattle.cidr_merge.specs.Private.Words.{IsCommandWithin};
 
+use crate::dashes::{before_dashes, behind_dashes};
 use crate::exports::Export;
 use crate::faults::{fault_of, from_count, no_task_fault};
 use crate::named_lists::{add_file, lists_of};
@@ -15,14 +16,13 @@ use crate::rows::{COUNT, FORMAT, FROM, JSON, MOST, PREFIX, RANGES, SKIP_BAD, STR
 use crate::set_names::{SetNames, names_of};
 use crate::shapes::Shape;
 use crate::tasks::{Task, task_called};
-use crate::words::{before_dashes, behind_dashes};
 use options::faults::{Fault, Subject, about};
 use options::given::{is_given, value_of};
 use options::items::Item;
 use options::reading::items_of;
 use options::table::Table;
 use options::values::{length_in, number_in};
-use program::words::count_of;
+use program::command_line::count_of;
 use std::alloc::{AllocError, Global};
 
 /// What is done with the lists.
@@ -153,7 +153,7 @@ fn command_for<'a>(
     others: &'a [String],
 ) -> Result<Result<Asked<'a>, Fault<'a>>, AllocError>
     ensures asked { IfOk result
-        (λ asked. told_of asked ≡ command_for table.now name.now task others.now) }
+        (λ asked. told_of asked ≡ command_for table.now task others.now) }
     ensures sets { IfOk result (λ asked. IfOk asked
         (λ all. all.sets ≡ sets_by table.now others.now)) }
     ensures within { IfOk result (λ asked. IfOk asked

@@ -18,6 +18,9 @@ pub(crate) struct Counts {
     addresses: AddressCount,
 }
 
+/// Both numbers as a text.
+pub(crate) type CountText = ArrayString<80>;
+
 impl Counts {
     /// Counts these blocks and their addresses.
     pub(crate) fn of<N: AddressSpace>(mut blocks: Sweep<'_, N>) -> Counts
@@ -38,7 +41,7 @@ impl Counts {
     }
 
     /// Returns both numbers, with a space between them.
-    pub(crate) fn text(self) -> ArrayString<80>
+    pub(crate) fn text(self) -> CountText
         ensures { result.bytes ≡ decimal self.blocks ++ codes " " ++ decimal
             (count_number self.addresses) }
     {
@@ -51,7 +54,7 @@ impl Counts {
 }
 
 // Appends a count of addresses to a text.
-fn push_count(text: &mut ArrayString<80>, count: AddressCount)
+fn push_count(text: &mut CountText, count: AddressCount)
     requires { array_string_len text.old ≤ 40 }
     ensures { text.new.bytes ≡ text.old.bytes ++ decimal (count_number count) }
 {

@@ -1,7 +1,5 @@
 //! Splits networks into subnets of one prefix length.
-ghost use Rattle.std.specs.Prelude.{◌≡◌, ◌||◌, OnOk, is_err};
 ghost use Rattle.std.specs.List.{flat_map};
-ghost use Rattle.lines.specs.Outputs.{Prints};
 ghost use Rattle.program.specs.Putting.{PutsOrFails};
 ghost use Rattle.cidr_merge.specs.Pieces.{network_line, pieces_text};
 
@@ -21,9 +19,8 @@ pub(crate) fn print_pieces<A: Address, W: Write>(
     set: &AddressSet<Network<A>>,
     output: &mut Output<'_, W>,
 ) -> Result<(), RunFault>
-    ensures text { OnOk result (Prints output.old output.new
-        (flat_map (pieces_text names.now A.family length) set.now)) }
-    ensures failed { output.new.failed ≡ (output.old.failed || is_err result) }
+    ensures { PutsOrFails result output.old output.new
+        (flat_map (pieces_text names.now A.family length) set.now) }
 {
     let mut blocks = set.iter();
     while let Some(block) = blocks.next() {
@@ -40,9 +37,8 @@ fn print_block<A: Address, W: Write>(
     block: Network<A>,
     output: &mut Output<'_, W>,
 ) -> Result<(), RunFault>
-    ensures text { OnOk result (Prints output.old output.new
-        (pieces_text names.now A.family length block)) }
-    ensures failed { output.new.failed ≡ (output.old.failed || is_err result) }
+    ensures { PutsOrFails result output.old output.new
+        (pieces_text names.now A.family length block) }
 {
     let Some(mut pieces) = subnets(block, length) else {
         return put_network(names, block, output);

@@ -1,8 +1,7 @@
 //! The text of a block in an export.
-ghost use Rattle.std.specs.Prelude.{◌≡◌, ◌≤◌, ◌||◌, ◌+◌, ◌-◌, ◌++◌, OnOk, is_err, length};
+ghost use Rattle.std.specs.Prelude.{◌≡◌, ◌≤◌, ◌+◌, ◌-◌, ◌++◌, length};
 ghost use Rattle.arrayvec.specs.ArrayString.{array_string_len};
 ghost use Rattle.ipnetwork_family.specs.Family.{text_of};
-ghost use Rattle.lines.specs.Outputs.{Prints};
 ghost use Rattle.program.specs.Putting.{PutsOrFails};
 ghost use Rattle.ipnetwork_family.specs.Network.{block_size};
 ghost use Rattle.cidr_merge.specs.Exports.{element, with_mask, csv_line, ipset_lines};
@@ -34,9 +33,8 @@ pub(crate) fn print_element<A: Address, W: Write>(
     block: Network<A>,
     output: &mut Output<'_, W>,
 ) -> Result<(), RunFault>
-    ensures text { OnOk result
-        (Prints output.old output.new (element names.now export version A.family block)) }
-    ensures failed { output.new.failed ≡ (output.old.failed || is_err result) }
+    ensures { PutsOrFails result output.old output.new
+        (element names.now export version A.family block) }
 {
     match export {
         Export::Netmask => put_with_mask(names, version, block, block.mask(), output),

@@ -3,16 +3,17 @@ ghost use Rattle.std.specs.Prelude.{◌≡◌};
 ghost use Rattle.cidr_merge.specs.Finds.{has};
 ghost use Rattle.cidr_merge.specs.NumberedLines.{is_range, said_by};
 
-use crate::laws;
 use ipnetwork::{IpAddr, laws as network_laws};
+use ipnetwork_addr::laws as address_laws;
 use lists::{Entry, LINE_MAX, LineFault, read_entry};
 
 /// Returns the entry of a line, if it has one, or why the line is refused.
 pub(crate) fn entry_of(line: &[u8]) -> Result<Option<Entry>, LineFault>
     ensures { result ≡ said_by line.now }
 {
-    // Does nothing. The proof needs the law: the result of reading a line can be computed.
-    laws::lines_are_read_as_computed();
+    // These do nothing. The proof needs the laws: the result of reading a text can be computed.
+    network_laws::ip_network_reading_is_computed();
+    address_laws::ip_reading_is_computed();
     if line.len() > LINE_MAX {
         return Err(LineFault::Length);
     }

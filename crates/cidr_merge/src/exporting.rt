@@ -1,9 +1,9 @@
 //! Prints an export.
-ghost use Rattle.std.specs.Prelude.{◌≡◌, ◌++◌, ◌||◌, OnOk, IfOk, is_err};
+ghost use Rattle.std.specs.Prelude.{◌≡◌, ◌++◌, ◌||◌, IfOk};
 ghost use Rattle.std.specs.List.{flat_map};
-ghost use Rattle.lines.specs.Outputs.{Prints};
-ghost use Rattle.cidr_merge.specs.Exports.{element, following, listed, family_text, export_text};
-ghost use Rattle.cidr_merge.specs.Private.Printing.{PrintsBlocks};
+ghost use Rattle.program.specs.Putting.{PutsOrFails};
+ghost use Rattle.cidr_merge.specs.Exports.{element, following, is_any, listed, family_text};
+ghost use Rattle.cidr_merge.specs.Exports.{export_text};
 ghost use Rattle.cidr_merge.specs.Private.Sweeps.{blocks_left};
 
 use crate::elements::print_element;
@@ -24,9 +24,8 @@ pub(crate) fn print_export<W: Write>(
     v6: Sweep<'_, Ipv6Network>,
     output: &mut Output<'_, W>,
 ) -> Result<(), RunFault>
-    ensures text { OnOk result (Prints output.old output.new
-        (export_text names.now export (blocks_left v4.entry) (blocks_left v6.entry))) }
-    ensures failed { output.new.failed ≡ (output.old.failed || is_err result) }
+    ensures { PutsOrFails result output.old output.new
+        (export_text names.now export (blocks_left v4.entry) (blocks_left v6.entry)) }
 {
     put_frame(export, names, Frame::Head, output)?;
     let follows = print_family(export, names, Version::V4, false, v4, output)?;
@@ -44,10 +43,9 @@ fn print_family<A: Address, W: Write>(
     blocks: Sweep<'_, Network<A>>,
     output: &mut Output<'_, W>,
 ) -> Result<bool, RunFault>
-    ensures printed { IfOk result (PrintsBlocks
-        (family_text names.now export version A.family follows)
-        follows (blocks_left blocks.entry) output.old output.new) }
-    ensures failed { output.new.failed ≡ (output.old.failed || is_err result) }
+    ensures puts { PutsOrFails result output.old output.new
+        (family_text names.now export version A.family follows (blocks_left blocks.entry)) }
+    ensures any { IfOk result (λ any. any ≡ (follows || is_any (blocks_left blocks.entry))) }
 {
     put_frame(export, names, Frame::FamilyHead(version), output)?;
     let any = print_listed(export, names, version, follows, blocks, output)?;
@@ -64,10 +62,9 @@ fn print_listed<A: Address, W: Write>(
     mut blocks: Sweep<'_, Network<A>>,
     output: &mut Output<'_, W>,
 ) -> Result<bool, RunFault>
-    ensures printed { IfOk result (PrintsBlocks
-        (listed names.now export version A.family follows) follows
-        (blocks_left blocks.entry) output.old output.new) }
-    ensures failed { output.new.failed ≡ (output.old.failed || is_err result) }
+    ensures puts { PutsOrFails result output.old output.new
+        (listed names.now export version A.family follows (blocks_left blocks.entry)) }
+    ensures any { IfOk result (λ any. any ≡ (follows || is_any (blocks_left blocks.entry))) }
 {
     let Some(block) = blocks.next_block() else {
         return Ok(follows);
@@ -89,9 +86,8 @@ fn print_following<A: Address, W: Write>(
     mut blocks: Sweep<'_, Network<A>>,
     output: &mut Output<'_, W>,
 ) -> Result<(), RunFault>
-    ensures text { OnOk result (Prints output.old output.new
-        (flat_map (following names.now export version A.family) (blocks_left blocks.entry))) }
-    ensures failed { output.new.failed ≡ (output.old.failed || is_err result) }
+    ensures { PutsOrFails result output.old output.new
+        (flat_map (following names.now export version A.family) (blocks_left blocks.entry)) }
 {
     let (separator, _) = around_blocks(export);
     while let Some(block) = blocks.next_block() {
@@ -109,9 +105,8 @@ fn print_after<A: Address, W: Write>(
     block: Network<A>,
     output: &mut Output<'_, W>,
 ) -> Result<(), RunFault>
-    ensures text { OnOk result (Prints output.old output.new
-        (text.now ++ element names.now export version A.family block)) }
-    ensures failed { output.new.failed ≡ (output.old.failed || is_err result) }
+    ensures { PutsOrFails result output.old output.new
+        (text.now ++ element names.now export version A.family block) }
 {
     output.put(text.as_bytes())?;
     print_element(export, names, version, block, output)

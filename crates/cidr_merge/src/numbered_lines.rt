@@ -3,7 +3,7 @@ ghost use Rattle.std.specs.Prelude.{◌+◌, ◌^◌, ◌<◌, length};
 
 use crate::text_lines::TextLines;
 use crate::texts::WholeLists;
-use program::words::text_at;
+use program::command_line::text_at;
 
 /// A line of a list.
 #[derive(Clone, Copy, Debug)]

@@ -11,8 +11,8 @@ ghost use Rattle.cidr_merge.specs.Private.Reported.{TellsFound};
 use crate::findings::{either, tell_place};
 use crate::placed::{Key, Placed};
 use lines::output::Output;
+use program::command_line::text_at;
 use program::messages::tell;
-use program::words::text_at;
 use std::io::Write;
 
 /// Prints each pair of overlapping entries, given entries in order, and returns whether there is

@@ -35,7 +35,7 @@ pub(crate) fn addresses_of(
 ) -> Result<Vec<IpAddr>, QueryFault>
     requires { first + length words.now < 2 ^ 64 }
     ensures ok { IfOk result (λ addresses. AreAddresses words.now addresses.items) }
-    ensures err { IfErr result (StopsAtWord first words.now) }
+    ensures err { IfErr result (StopsAtWord words.now) }
 {
     let mut addresses = Vec::new(alloc);
     for place in 0..words.len() {

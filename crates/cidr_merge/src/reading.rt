@@ -1,8 +1,7 @@
 //! Reads the lists of a side.
-ghost use Rattle.std.specs.Prelude.{◌≡◌, ◌+◌, ◌^◌, ◌<◌, false, length, OnOk, IfErr, codes};
+ghost use Rattle.std.specs.Prelude.{◌≡◌, ◌+◌, ◌^◌, ◌<◌, false, length, OnOk, IfErr};
+ghost use Rattle.ipnetwork_blocks.specs.Aggregate.{IsAggregate};
 ghost use Rattle.lists.specs.Lists.{nothing_read};
-ghost use Rattle.program.specs.Messages.{Reports};
-ghost use Rattle.program.specs.Reported.{fault_text};
 ghost use Rattle.cidr_merge.specs.Reading.{ReadsLists, ReadsSide};
 ghost use Rattle.cidr_merge.specs.Shapes.{source};
 ghost use Rattle.cidr_merge.specs.Stopping.{Stops};
@@ -38,13 +37,27 @@ pub(crate) fn read_side<L: OpenLists>(
     requires { first + length names.now < 2 ^ 64 }
     ensures read { OnOk result.2 (ReadsSide (source (L.known context.now.lists.now) shape) first
         names.now refusals result.0 result.1) }
-    ensures stopped { IfErr result.2 (λ fault. Stops (source (L.known context.now.lists.now) shape)
-        first names.now (nothing_read refusals) fault result.1) }
+    ensures stopped { IfErr result.2 (Stops (source (L.known context.now.lists.now) shape)
+        first names.now (nothing_read refusals)) }
 {
     let mut reader = ListReader::new(context.alloc, refusals);
     let end = read_all(context, shape, names, first, &mut reader);
-    let (v4, v6, refusals) = reader.into_sets();
+    let (v4, v6, refusals) = into_sets(reader);
     (Sets { v4, v6 }, refusals, end)
+}
+
+// Returns the sets of the addresses that were read, and the refused lines.
+fn into_sets(reader: ListReader) -> (AddressSet<Ipv4Network>, AddressSet<Ipv6Network>, Refusals)
+    ensures v4 { IsAggregate 32 reader.v4 result.0 }
+    ensures v6 { IsAggregate 128 reader.v6 result.1 }
+    ensures refused { result.2 ≡ reader.refused }
+{
+    let (v4, v6, refusals) = reader.into_networks();
+    (
+        AddressSet::from_networks(v4),
+        AddressSet::from_networks(v6),
+        refusals,
+    )
 }
 
 // Reads the lists of these names, in order.
@@ -60,8 +73,8 @@ fn read_all<L: OpenLists>(
     ensures read { OnOk result (ReadsLists (source (L.known context.now.lists.now) shape) first
         names.now reader.old reader.new) }
     ensures memory { OnOk result (reader.new.is_out_of_memory ≡ false) }
-    ensures stopped { IfErr result (λ fault. Stops (source (L.known context.now.lists.now) shape)
-        first names.now reader.old fault reader.new.refused) }
+    ensures stopped { IfErr result (Stops (source (L.known context.now.lists.now) shape)
+        first names.now reader.old) }
 {
     for place in 0..names.len() {
         read_one(context, shape, names[place].as_str(), first + place, reader)?;
@@ -75,8 +88,7 @@ pub(crate) fn refuse_lists<E: Write>(
     fault: ReadFault,
     errors: &mut Output<'_, E>,
 ) -> u8
-    ensures status { result ≡ 2 }
-    ensures told { Reports errors.old errors.new (fault_text (codes "cidr_merge") words.now fault) }
+    ensures { result ≡ 2 }
 {
     tell_fault(PROGRAM, words, fault, errors);
     FAILED

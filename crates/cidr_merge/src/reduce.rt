@@ -1,8 +1,6 @@
 //! Prints at most a given number of networks that have all addresses of lists.
-ghost use Rattle.std.specs.Prelude.{decimal, map};
-ghost use Rattle.program.specs.Endings.{ending};
-ghost use Rattle.program.specs.Messages.{Reports};
-ghost use Rattle.cidr_merge.specs.Reductions.{EndsReducing, EndsJoining, EndsJoined, others_text};
+ghost use Rattle.std.specs.Prelude.{map};
+ghost use Rattle.cidr_merge.specs.Reductions.{EndsReducing, EndsJoining, EndsJoined};
 
 use crate::command_line::ReduceRequest;
 use crate::context::Context;
@@ -32,8 +30,7 @@ pub(crate) fn reduce<L: OpenLists, W: Write, E: Write>(
     errors: &mut Output<'_, E>,
 ) -> u8
     ensures { EndsReducing (L.known context.now.lists.now) context.now.names.now
-        context.now.sets.now request
-        (ending output.old output.new errors.old errors.new result) }
+        context.now.sets.now request output.old output.new result }
 {
     let names = context.names;
     let none = Refusals::new();
@@ -54,8 +51,7 @@ fn join<L: OpenLists, W: Write, E: Write>(
     output: &mut Output<'_, W>,
     errors: &mut Output<'_, E>,
 ) -> u8
-    ensures { EndsJoining context.now.sets.now request skips sets
-        (ending output.old output.new errors.old errors.new result) }
+    ensures { EndsJoining context.now.sets.now request skips sets output.old output.new result }
 {
     if skips && !request.merge.skips_bad {
         return FAILED;
@@ -81,9 +77,7 @@ fn print_reduced<W: Write, E: Write>(
 ) -> u8
     ensures { EndsJoined names.now request skips
         (map (λ network. network) reduced.first.items)
-        (map (λ network. network) reduced.second.items)
-        reduced.first_others reduced.second_others
-        (ending output.old output.new errors.old errors.new result) }
+        (map (λ network. network) reduced.second.items) output.old output.new result }
 {
     let (v4, v6) = (reduced.first.len(), reduced.second.len());
     if v4 > request.most || v6 > request.most - v4 {
@@ -106,9 +100,7 @@ fn print_reduced<W: Write, E: Write>(
 
 // Reports in the name of a program how many addresses its networks of each family have that the
 // lists have not.
-fn tell_others<E: Write>(program: &str, v4: u128, v6: u128, errors: &mut Output<'_, E>)
-    ensures { Reports errors.old errors.new (others_text program.now v4 v6) }
-{
+fn tell_others<E: Write>(program: &str, v4: u128, v6: u128, errors: &mut Output<'_, E>) {
     tell_of(program, ": ", errors);
     tell_count(v4, errors);
     tell(" other addresses of IPv4, ", errors);
@@ -117,9 +109,7 @@ fn tell_others<E: Write>(program: &str, v4: u128, v6: u128, errors: &mut Output<
 }
 
 // Reports a number.
-fn tell_count<E: Write>(count: u128, errors: &mut Output<'_, E>)
-    ensures { Reports errors.old errors.new (decimal count) }
-{
+fn tell_count<E: Write>(count: u128, errors: &mut Output<'_, E>) {
     let mut text = ArrayString::<40>::new();
     push_number(&mut text, count);
     tell(text.as_str(), errors);

@@ -1,9 +1,9 @@
 //! A run of the program.
 ghost use Rattle.std.specs.Prelude.{◌≡◌, ◌≤◌, ℕ, List, [], length, if◌then◌else◌};
 ghost use Rattle.std.specs.Prelude.{OnOk, IfErr, is_err};
-ghost use Rattle.lines.specs.Outputs.{Writes};
 ghost use Rattle.program.specs.Endings.{ending};
 ghost use Rattle.cidr_merge.specs.Answers.{IsAnswer};
+ghost use Rattle.cidr_merge.specs.Private.Printing.{WritesOrFails};
 ghost use Rattle.cidr_merge.specs.Private.Words.{IsCommandWithin};
 ghost use Rattle.cidr_merge.specs.Endings.{EndsAs, EndsBy, EndsCommand};
 ghost use Rattle.cidr_merge.specs.Reading.{ReadsSides};
@@ -41,7 +41,7 @@ pub(crate) fn run<L: OpenLists, W: Write, E: Write>(
     output: &mut Output<'_, W>,
     errors: &mut Output<'_, E>,
 ) -> u8
-    ensures { EndsAs PROGRAM.now HELP.now VERSION.now USAGE.now (L.known lists.now) words.now
+    ensures { EndsAs HELP.now VERSION.now (L.known lists.now) words.now
         (ending output.old output.new errors.old errors.new result) }
 {
     if let Some(text) = text_asked(HELP, VERSION, words) {
@@ -64,7 +64,7 @@ fn ask<L: OpenLists, W: Write, E: Write>(
     output: &mut Output<'_, W>,
     errors: &mut Output<'_, E>,
 ) -> u8
-    ensures { EndsBy PROGRAM.now USAGE.now (L.known lists.now) words.now
+    ensures { EndsBy (L.known lists.now) words.now
         (ending output.old output.new errors.old errors.new result) }
 {
     let table = table();
@@ -93,9 +93,8 @@ fn obey<L: OpenLists, W: Write, E: Write>(
     errors: &mut Output<'_, E>,
 ) -> u8
     requires { IsCommandWithin (length context.now.names.now) command }
-    ensures { EndsCommand PROGRAM.now USAGE.now rows.now (L.known context.now.lists.now)
-        context.now.names.now context.now.sets.now command
-        (ending output.old output.new errors.old errors.new result) }
+    ensures { EndsCommand (L.known context.now.lists.now) context.now.names.now
+        context.now.sets.now command output.old output.new result }
 {
     match command {
         Command::Merge(request) => merge(request, context, output, errors),
@@ -115,8 +114,7 @@ fn merge<L: OpenLists, W: Write, E: Write>(
 ) -> u8
     requires { request.middle ≤ length context.now.names.now }
     ensures { EndsMerging (L.known context.now.lists.now) context.now.names.now
-        context.now.sets.now request
-        (ending output.old output.new errors.old errors.new result) }
+        context.now.sets.now request output.old output.new result }
 {
     let (first, second, refusals, read) = read_sides(request, context);
     tell_refusals(PROGRAM, context.names, &InLists, &refusals, errors);
@@ -143,8 +141,8 @@ fn read_sides<L: OpenLists>(
     requires { request.middle ≤ length context.now.names.now }
     ensures read { OnOk result.3 (ReadsSides (L.known context.now.lists.now) context.now.names.now
         request result.0 result.1 result.2) }
-    ensures stopped { IfErr result.3 (λ fault. StopsInSides (L.known context.now.lists.now)
-        context.now.names.now request fault result.2) }
+    ensures stopped { IfErr result.3 (StopsInSides (L.known context.now.lists.now)
+        context.now.names.now request) }
 {
     let shape = request.shape;
     let none = Refusals::new();
@@ -174,8 +172,7 @@ pub(crate) fn answer<W: Write, E: Write>(
     errors: &mut Output<'_, E>,
 ) -> u8
     ensures { let m = merging.now in EndsAnswering m.sets.now m.request skips
-        m.first.now m.second.now
-        (ending output.old output.new errors.old errors.new result) }
+        m.first.now m.second.now output.old output.new result }
 {
     let request = merging.request;
     if skips && !request.skips_bad {
@@ -188,10 +185,9 @@ pub(crate) fn answer<W: Write, E: Write>(
 
 // Writes the result of the operation.
 fn write_answer<W: Write>(merging: &Merging<'_>, output: &mut Output<'_, W>) -> Result<(), RunFault>
-    ensures written { let m = merging.now in OnOk result ((text : List ℕ)
+    ensures { let m = merging.now in (text : List ℕ)
         × IsAnswer m.sets.now m.request.operation m.request.form m.first.now m.second.now text
-        × Writes output.old output.new text) }
-    ensures failed { output.new.failed ≡ is_err result }
+        × WritesOrFails result output.old output.new text }
 {
     print(merging, output)?;
     output.finish()

@@ -1,9 +1,9 @@
 //! Searches lists for addresses.
-ghost use Rattle.std.specs.Prelude.{◌≤◌, length, map};
+ghost use Rattle.std.specs.Prelude.{◌≡◌, ◌≤◌, length, map, is_err};
 ghost use Rattle.std.specs.List.{flat_map};
 ghost use Rattle.program.specs.Messages.{Reports};
-ghost use Rattle.cidr_merge.specs.Finds.{has_text, lists_matches, lists_refusals, match_lines};
-ghost use Rattle.cidr_merge.specs.Finds.{matches_by, refusals_by};
+ghost use Rattle.cidr_merge.specs.Finds.{has_refused, has_text, lists_matches, match_lines};
+ghost use Rattle.cidr_merge.specs.Finds.{matches_by};
 ghost use Rattle.cidr_merge.specs.NumberedLines.{said_by};
 ghost use Rattle.cidr_merge.specs.Private.Reported.{TellsFound};
 ghost use Rattle.cidr_merge.specs.Private.LinesLeft.{sought_as, sought_in};
@@ -41,8 +41,7 @@ pub(crate) fn search_lists<W: Write, E: Write>(
     requires room { length query.now.sought.items ≤ length buffer.old }
     ensures printed { TellsFound (lists_matches (sought_in query.now) lists.now.names.now
         (map (λ text. text.items) lists.now.texts.now)) output.old output.new result.printed }
-    ensures told { TellsFound (lists_refusals lists.now.names.now
-        (map (λ text. text.items) lists.now.texts.now)) errors.old errors.new result.told }
+    ensures told { result.told ≡ has_refused (map (λ text. text.items) lists.now.texts.now) }
 {
     let mut printed = false;
     let mut told = false;
@@ -68,8 +67,7 @@ fn search_line<W: Write, E: Write>(
     ensures printed { TellsFound (matches_by (sought_in query.now) line.now.name.now
         line.now.number line.now.text.now (said_by line.now.text.now))
         output.old output.new result.printed }
-    ensures told { TellsFound (refusals_by line.now.name.now line.now.number line.now.text.now
-        (said_by line.now.text.now)) errors.old errors.new result.told }
+    ensures told { result.told ≡ is_err (said_by line.now.text.now) }
 {
     match entry_of(line.text) {
         Ok(None) => Reported {

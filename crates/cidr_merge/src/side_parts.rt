@@ -1,8 +1,7 @@
 //! The parts of one side that are in an operation's result: blocks, or ranges of addresses.
-ghost use Rattle.std.specs.Prelude.{◌≡◌, ◌∷◌, ◌↔◌, ◌<◌, ◌||◌, ℕ, List, [], IsTrue, MatchOption};
-ghost use Rattle.std.specs.Prelude.{OnOk, codes, is_err};
+ghost use Rattle.std.specs.Prelude.{◌≡◌, ◌∷◌, ◌↔◌, ◌<◌, ℕ, List, [], IsTrue, MatchOption};
+ghost use Rattle.std.specs.Prelude.{codes};
 ghost use Rattle.ipnetwork_family.specs.Network.{Network};
-ghost use Rattle.lines.specs.Outputs.{Prints};
 ghost use Rattle.cidr_merge.specs.Answers.{Sided, sign_of, block_line, range_line};
 ghost use Rattle.cidr_merge.specs.Private.Sweeps.{blocks_left, numbers};
 ghost use Rattle.cidr_merge.specs.SetNames.{Names, line_of};
@@ -56,9 +55,8 @@ pub(crate) trait Parts: Drop {
         part: Self::Part,
         output: &mut Output<'_, W>,
     ) -> Result<(), RunFault>
-        ensures text { OnOk result (Prints output.old output.new
-            (line names.now operation (record { side = side; part = seen part }))) }
-        ensures failed { output.new.failed ≡ (output.old.failed || is_err result) };
+        ensures { PutsOrFails result output.old output.new
+            (line names.now operation (record { side = side; part = seen part })) };
 }
 
 // Blocks as parts.

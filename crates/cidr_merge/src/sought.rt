@@ -2,9 +2,8 @@
 ghost use Rattle.std.specs.Prelude.{◌≡◌, ◌++◌, ◌∷◌, [], length, map, IfOk, OnOk};
 ghost use Rattle.cidr_merge.specs.FindWords.{with_addresses};
 ghost use Rattle.cidr_merge.specs.Private.LinesLeft.{sought_as};
-ghost use Rattle.cidr_merge.specs.Private.Reported.{TellsFound};
-ghost use Rattle.cidr_merge.specs.SoughtLines.{is_other, lists_others, lists_sought};
-ghost use Rattle.cidr_merge.specs.SoughtLines.{other_cause, others_by, sought_of};
+ghost use Rattle.cidr_merge.specs.SoughtLines.{has_other, is_other, is_other_line};
+ghost use Rattle.cidr_merge.specs.SoughtLines.{lists_sought, sought_of};
 ghost use Rattle.ipnetwork_addr.specs.Computed.Either.{ip_of};
 ghost use Rattle.lists.specs.Lines.{trimmed};
 
@@ -100,10 +99,10 @@ fn address_of(text: &[u8]) -> Option<IpAddr>
     }
 }
 
-/// Reports the lines of lists that have something other than an address.
+/// Reports the lines of lists that have something other than an address, and returns whether there
+/// are any.
 pub(crate) fn tell_others<E: Write>(lists: &WholeLists<'_>, errors: &mut Output<'_, E>) -> bool
-    ensures { TellsFound (lists_others lists.now.names.now
-        (map (λ text. text.items) lists.now.texts.now)) errors.old errors.new result }
+    ensures { result ≡ has_other (map (λ text. text.items) lists.now.texts.now) }
 {
     let mut told = false;
     let mut lines = NumberedLines::of(lists);
@@ -114,10 +113,9 @@ pub(crate) fn tell_others<E: Write>(lists: &WholeLists<'_>, errors: &mut Output<
     told
 }
 
-// Reports a line that has something other than an address.
+// Reports a line if it has something other than an address, and returns whether it has.
 fn tell_other<E: Write>(line: &Line<'_>, errors: &mut Output<'_, E>) -> bool
-    ensures { TellsFound (others_by line.now.name.now line.now.number line.now.text.now)
-        errors.old errors.new result }
+    ensures { result ≡ is_other_line line.now.text.now }
 {
     let text = trim::<Blank>(line.text);
     if !is_other(text) {
@@ -128,9 +126,7 @@ fn tell_other<E: Write>(line: &Line<'_>, errors: &mut Output<'_, E>) -> bool
 }
 
 // Why a text that names no address is refused: its encoding, if it is not plain text.
-fn other_cause(text: &[u8]) -> EntryFault
-    ensures { result ≡ other_cause text.now }
-{
+fn other_cause(text: &[u8]) -> EntryFault {
     match encoding_of(text) {
         Some(encoding) => EntryFault::Encoding(encoding),
         None => EntryFault::Address,

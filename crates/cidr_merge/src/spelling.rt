@@ -5,7 +5,7 @@ ghost use Rattle.cidr_merge.specs.Spelling.{is_short, spelled_out};
 
 use crate::named_lists::add_name;
 use options::values::number_in;
-use program::words::is;
+use program::command_line::is;
 use std::alloc::{AllocError, Global};
 
 /// Whether the words begin with `reduce` and a number, which stands for `--most` and the number.

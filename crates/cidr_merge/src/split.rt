@@ -1,8 +1,7 @@
 //! Runs a `split`.
-ghost use Rattle.std.specs.Prelude.{◌≡◌, OnOk, is_err};
-ghost use Rattle.lines.specs.Outputs.{Writes};
-ghost use Rattle.program.specs.Endings.{ending};
+ghost use Rattle.std.specs.Prelude.{◌≡◌, if◌then◌else◌};
 ghost use Rattle.cidr_merge.specs.Pieces.{split_text};
+ghost use Rattle.cidr_merge.specs.Private.Printing.{WritesOrFails};
 ghost use Rattle.cidr_merge.specs.Splits.{EndsSplitting, EndsCutting};
 
 use crate::command_line::SplitRequest;
@@ -26,8 +25,7 @@ pub(crate) fn split<L: OpenLists, W: Write, E: Write>(
     errors: &mut Output<'_, E>,
 ) -> u8
     ensures { EndsSplitting (L.known context.now.lists.now) context.now.names.now
-        context.now.sets.now request
-        (ending output.old output.new errors.old errors.new result) }
+        context.now.sets.now request output.old output.new result }
 {
     let names = context.names;
     let none = Refusals::new();
@@ -55,14 +53,21 @@ fn print_split<W: Write, E: Write>(
     output: &mut Output<'_, W>,
     errors: &mut Output<'_, E>,
 ) -> u8
-    ensures { EndsCutting names.now request skips sets.now
-        (ending output.old output.new errors.old errors.new result) }
+    ensures { EndsCutting names.now request skips sets.now output.old output.new result }
 {
     if skips && !request.skips_bad {
         return FAILED;
     }
     let written = write_split(names, request.length, sets, output);
-    end(PROGRAM, written, if skips { 3 } else { 0 }, errors)
+    let status = status(skips);
+    end(PROGRAM, written, status, errors)
+}
+
+// Returns the exit status after the pieces were written.
+fn status(skips: bool) -> u8
+    ensures { result ≡ (if skips then 3 else 0) }
+{
+    if skips { 3 } else { 0 }
 }
 
 // Writes the pieces of the networks of both families.
@@ -72,9 +77,7 @@ fn write_split<W: Write>(
     sets: &Sets,
     output: &mut Output<'_, W>,
 ) -> Result<(), RunFault>
-    ensures written { OnOk result (Writes output.old output.new
-        (split_text names.now length sets.now)) }
-    ensures failed { output.new.failed ≡ is_err result }
+    ensures { WritesOrFails result output.old output.new (split_text names.now length sets.now) }
 {
     print_pieces(names, length, &sets.v4, output)?;
     print_pieces(names, length, &sets.v6, output)?;

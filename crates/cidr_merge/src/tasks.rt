@@ -1,6 +1,6 @@
 //! The tasks, and the messages for words that a task does not take.
 ghost use Rattle.std.specs.Prelude.{◌≡◌};
-ghost use Rattle.cidr_merge.specs.Tasks.{task_called, is_two_sided, no_option, no_first};
+ghost use Rattle.cidr_merge.specs.Tasks.{task_called, is_two_sided};
 
 use crate::command_line::Operation;
 
@@ -54,9 +54,7 @@ pub(crate) fn is_two_sided(task: Task) -> bool
 }
 
 /// The message for a word that begins with a `-` and is no option of a task.
-pub(crate) fn no_option(task: Task) -> &'static str
-    ensures { result.now ≡ no_option task }
-{
+pub(crate) fn no_option(task: Task) -> &'static str {
     match task {
         Task::Merge(_) | Task::List => {
             "not an option of union, common, minus, differ or list; they take -e TEXT, --ranges, \
@@ -75,9 +73,7 @@ pub(crate) fn no_option(task: Task) -> &'static str
 }
 
 /// The message for a `--` with nothing before it.
-pub(crate) fn no_first(task: Task) -> &'static str
-    ensures { result.now ≡ no_first task }
-{
+pub(crate) fn no_first(task: Task) -> &'static str {
     match task {
         Task::Find => "no ADDRESS before it, and no --from FILE",
         _ if is_two_sided(task) => "no FILE before it",

@@ -28,7 +28,7 @@ pub(crate) fn texts_of<L: OpenLists>(
     requires { first + length names.now < 2 ^ 64 }
     ensures ok { IfOk result (λ texts. AreTexts (L.known context.now.lists.now) names.now
         (map (λ text. text.items) texts.items)) }
-    ensures err { IfErr result (TextsStop (L.known context.now.lists.now) first names.now) }
+    ensures err { IfErr result (TextsStop (L.known context.now.lists.now) names.now) }
 {
     let mut texts = Vec::new(context.alloc);
     for place in 0..names.len() {
@@ -50,7 +50,7 @@ fn text_of<L: OpenLists>(
     place: usize,
 ) -> Result<Vec<u8>, ReadFault>
     ensures ok { IfOk result (λ text. IsText (L.known context.now.lists.now) name.now text.items) }
-    ensures err { IfErr result (TextStops (L.known context.now.lists.now) place name.now) }
+    ensures err { IfErr result (TextStops (L.known context.now.lists.now) name.now) }
 {
     match text_in(name) {
         Some(text) => match Vec::from_slice(context.alloc, text.as_bytes()) {
@@ -68,7 +68,7 @@ fn file_of<L: OpenLists>(
     place: usize,
 ) -> Result<Vec<u8>, ReadFault>
     ensures ok { IfOk result (λ text. IsAllOf (L.known context.now.lists.now) name.now text.items) }
-    ensures err { IfErr result (FileStops (L.known context.now.lists.now) place name.now) }
+    ensures err { IfErr result (FileStops (L.known context.now.lists.now) name.now) }
 {
     match read_bytes(context.alloc, context.lists, name, usize::MAX) {
         Ok(text) => Ok(text),

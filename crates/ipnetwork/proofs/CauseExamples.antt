@@ -1,16 +1,6 @@
 -- Causes at which a misreading of the definitions would show: a text does not have two causes.
-use Rattle.std.proofs.Common.{◌↔◌, ℕ, List, None, Some, arith}
-use Rattle.std.specs.Prelude.{codes}
-use Rattle.ipnetwork_addr.specs.Either.{NamesIp}
-use Rattle.ipnetwork_addr.specs.declared.ip.IpAddr.{IpAddr}
+use Rattle.ipnetwork.proofs.Words.{◌↔◌, ℕ, List, None, Some, arith, codes, NamesIp, IpAddr, IsV4Suffix, IsV6Suffix, before_slash, HasSeveralSlashes, HasNoSuffix, CidrFault, Format, Addr, Prefix, NamesIpNetwork, IsIpCause, IsIpSuffix, TellsIpCause, IpNetwork}
 use Rattle.ipnetwork_addr.specs.declared.ip.IpAddr.TheVariants.{V4, V6}
-use Rattle.ipnetwork_family.specs.Ipv4NetworkText.{IsV4Suffix}
-use Rattle.ipnetwork_family.specs.Ipv6NetworkText.{IsV6Suffix}
-use Rattle.ipnetwork_family.specs.NetworkText.{before_slash, HasSeveralSlashes, HasNoSuffix}
-use Rattle.ipnetwork_family.specs.declared.error.CidrFault.{CidrFault}
-use Rattle.ipnetwork_family.specs.declared.error.CidrFault.TheVariants.{Format, Addr, Prefix}
-use Rattle.ipnetwork.specs.IpNetworkText.{NamesIpNetwork, IsIpCause, IsIpSuffix, TellsIpCause}
-use Rattle.ipnetwork.specs.declared.ip_network.IpNetwork.{IpNetwork}
 
 pub one_slash_is_not_format : ¬ (IsIpCause (codes "10.0.0.0/33") Format)
 one_slash_is_not_format h = omega (arith, h)

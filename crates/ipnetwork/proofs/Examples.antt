@@ -1,22 +1,8 @@
 -- Values at which a misreading of the definitions would show. All of these are proved by computing.
-use Rattle.std.proofs.Common.{◌≡◌, [], ◌∷◌, Ok, Err, inl, refl, arith}
-use Rattle.std.specs.Prelude.{codes}
-use Rattle.std.specs.Fmt.{digits}
-use Rattle.std.specs.Hash.{le_bytes}
-use Rattle.std.specs.declared.cmp.Ordering.TheVariants.{Less, Greater}
+use Rattle.ipnetwork.proofs.Words.{◌≡◌, [], ◌∷◌, Ok, Err, inl, refl, arith, codes, digits, le_bytes, Less, Greater, v6_of, gap_below, Network, count_up, Addr, NetworkIsTooLarge, IpNetwork, V4, V6, IpMember, IpSubnet, IpOverlap, address_of, prefix_of, ip_mask_of, ip_low, ip_high, ip_size, ip_members, made_of, width_of, Makes, IsIpMask, GivesMaskPrefix, MakesWithMask, TakesV4, TakesV6, IsIpBefore, IsIpAtMost, ip_network_cmp, ip_network_writes, ip_network_text, ip_network_of, size_number, FitsV4}
 use Rattle.ipnetwork_addr.specs.declared.ip.IpAddr.TheVariants as addresses
-use Rattle.ipnetwork_addr.specs.Computed.Ipv6Text.{v6_of, gap_below}
-use Rattle.ipnetwork_family.specs.Network.{Network, count_up}
-use Rattle.ipnetwork_family.specs.declared.error.CidrFault.TheVariants.{Addr}
 use Rattle.ipnetwork_family.specs.declared.error.IpNetworkError.TheVariants as errors
-use Rattle.ipnetwork_family.specs.declared.error.NetworkSizeError.TheVariants.{NetworkIsTooLarge}
-use Rattle.ipnetwork.specs.declared.ip_network.IpNetwork.{IpNetwork}
-use Rattle.ipnetwork.specs.declared.ip_network.IpNetwork.TheVariants.{V4, V6}
 use Rattle.ipnetwork.specs.declared.size.NetworkSize.TheVariants as sizes
-use Rattle.ipnetwork.specs.IpNetworks.{IpMember, IpSubnet, IpOverlap, address_of, prefix_of, ip_mask_of, ip_low, ip_high, ip_size, ip_members, made_of, width_of, Makes, IsIpMask, GivesMaskPrefix, MakesWithMask, TakesV4, TakesV6, IsIpBefore, IsIpAtMost, ip_network_cmp, ip_network_writes}
-use Rattle.ipnetwork.specs.IpNetworkText.{ip_network_text}
-use Rattle.ipnetwork.specs.Computed.IpNetworkText.{ip_network_of}
-use Rattle.ipnetwork.specs.Sizes.{size_number, FitsV4}
 
 -- 0.0.0.0/0, ::/0, and ::ffff:0:0/96, the block of the IPv4-mapped addresses
 abbrev pub all_v4 : IpNetwork
@@ -70,7 +56,8 @@ every_v4_before_every_v6 = refl
 pub no_v6_before_a_v4 : ¬ (IsIpAtMost all_v6 all_v4)
 no_v6_before_a_v4 h = h
 
-pub address_before_prefix : IsIpBefore (V4 (record { address = 1; prefix = 32 })) (V4 (record { address = 2; prefix = 0 }))
+pub address_before_prefix : IsIpBefore (V4 (record { address = 1; prefix = 32 }))
+    (V4 (record { address = 2; prefix = 0 }))
 address_before_prefix = inl (omega arith)
 
 pub v4_text : ip_network_of (codes "10.1.9.32/16") ≡ Ok (V4 (record { address = 167840032; prefix = 16 }))
@@ -95,17 +82,20 @@ two_slashes = refl
 abbrev pub four : Network
 four = record { address = 42540766411282592856903984951653826563; prefix = 126 }
 
-pub host_bits_are_in_the_address : (address_of (V6 four) ≡ addresses.V6 42540766411282592856903984951653826563) × (prefix_of (V6 four) ≡ 126)
+pub host_bits_are_in_the_address : (address_of (V6 four) ≡ addresses.V6 42540766411282592856903984951653826563)
+    × (prefix_of (V6 four) ≡ 126)
 host_bits_are_in_the_address = (refl, refl)
 
 pub and_not_in_the_least_member : ip_low (V6 four) ≡ addresses.V6 42540766411282592856903984951653826560
 and_not_in_the_least_member = refl
 
-pub greatest_member : ip_high (V6 (record { address = 42540766411282592856903984951653826561; prefix = 126 })) ≡ addresses.V6 42540766411282592856903984951653826563
+pub greatest_member : ip_high (V6 (record { address = 42540766411282592856903984951653826561; prefix = 126 }))
+    ≡ addresses.V6 42540766411282592856903984951653826563
 greatest_member = refl
 
 -- ffff:ffff:ffff::, the mask of prefix length 48
-pub mask_of_48 : ip_mask_of (V6 (record { address = 1; prefix = 48 })) ≡ addresses.V6 340282366920937254537554992802593505280
+pub mask_of_48 : ip_mask_of (V6 (record { address = 1; prefix = 48 })) ≡ addresses.V6
+    340282366920937254537554992802593505280
 mask_of_48 = refl
 
 pub members_ascend :
@@ -135,15 +125,18 @@ pub a_prefix_is_not_refused : ¬ (Makes (addresses.V4 1) 32 (Err errors.InvalidP
 a_prefix_is_not_refused h = omega (arith, h.1)
 
 -- 10.0.0.1 with ffff:ff00:: is 10.0.0.1/24: a mask of one family gives a prefix length for the other
-pub mask_of_the_other_family : MakesWithMask (addresses.V4 167772161) (addresses.V6 340282346638528859811704183484516925440) (Ok (V4 (record { address = 167772161; prefix = 24 })))
+pub mask_of_the_other_family : MakesWithMask (addresses.V4 167772161)
+    (addresses.V6 340282346638528859811704183484516925440) (Ok (V4 (record { address = 167772161; prefix = 24 })))
 mask_of_the_other_family = (refl, omega arith, (omega arith, refl))
 
 -- ::1 with 255.255.0.0 is ::1/16
-pub mask_of_v4_for_v6 : MakesWithMask (addresses.V6 1) (addresses.V4 4294901760) (Ok (V6 (record { address = 1; prefix = 16 })))
+pub mask_of_v4_for_v6 : MakesWithMask (addresses.V6 1) (addresses.V4 4294901760)
+    (Ok (V6 (record { address = 1; prefix = 16 })))
 mask_of_v4_for_v6 = (refl, omega arith, (omega arith, refl))
 
 -- ffff:ffff:8000::, the mask of prefix length 33, gives no prefix length for IPv4
-pub mask_past_the_width : ¬ (MakesWithMask (addresses.V4 1) (addresses.V6 340282366881324382206242438634996236288) (Ok (V4 (record { address = 1; prefix = 33 }))))
+pub mask_past_the_width : ¬ (MakesWithMask (addresses.V4 1) (addresses.V6 340282366881324382206242438634996236288)
+    (Ok (V4 (record { address = 1; prefix = 33 }))))
 mask_past_the_width h = omega (arith, h.1)
 
 pub mask_is_converted : GivesMaskPrefix (addresses.V6 340282346638528859811704183484516925440) (Ok 24)
@@ -166,17 +159,20 @@ v4_is_no_v6 h = cc
 pub each_v4_comes_first : (a b : Network) → IsIpBefore (V4 a) (V6 b) × IsIpAtMost (V4 a) (V6 b)
 each_v4_comes_first a b = (tt, tt)
 
-pub no_v6_comes_first : (a b : Network) → ¬ (IsIpBefore (V6 a) (V4 b)) × ¬ (IsIpAtMost (V6 a) (V4 b)) × (ip_network_cmp (V6 a) (V4 b) ≡ Greater)
+pub no_v6_comes_first : (a b : Network) → ¬ (IsIpBefore (V6 a) (V4 b)) × ¬ (IsIpAtMost (V6 a) (V4 b))
+    × (ip_network_cmp (V6 a) (V4 b) ≡ Greater)
 no_v6_comes_first a b = ((λ h. h), (λ h. h), refl)
 
 -- the family is fed as eight bytes, the address as 4 or 16, and the prefix length as one
-pub v4_is_fed : ip_network_writes (V4 (record { address = 258; prefix = 24 })) ≡ (0 ∷ 0 ∷ 0 ∷ 0 ∷ 0 ∷ 0 ∷ 0 ∷ 0 ∷ []) ∷ (2 ∷ 1 ∷ 0 ∷ 0 ∷ []) ∷ (24 ∷ []) ∷ []
+pub v4_is_fed : ip_network_writes (V4 (record { address = 258; prefix = 24 })) ≡ (0 ∷ 0 ∷ 0 ∷ 0 ∷ 0 ∷ 0 ∷ 0 ∷ 0 ∷ [])
+    ∷ (2 ∷ 1 ∷ 0 ∷ 0 ∷ []) ∷ (24 ∷ []) ∷ []
 unfolding le_bytes
 v4_is_fed = refl
 
 pub v6_is_fed :
     ip_network_writes (V6 (record { address = 258; prefix = 64 }))
-    ≡ (1 ∷ 0 ∷ 0 ∷ 0 ∷ 0 ∷ 0 ∷ 0 ∷ 0 ∷ []) ∷ (2 ∷ 1 ∷ 0 ∷ 0 ∷ 0 ∷ 0 ∷ 0 ∷ 0 ∷ 0 ∷ 0 ∷ 0 ∷ 0 ∷ 0 ∷ 0 ∷ 0 ∷ 0 ∷ []) ∷ (64 ∷ []) ∷ []
+    ≡ (1 ∷ 0 ∷ 0 ∷ 0 ∷ 0 ∷ 0 ∷ 0 ∷ 0 ∷ []) ∷ (2 ∷ 1 ∷ 0 ∷ 0 ∷ 0 ∷ 0 ∷ 0 ∷ 0 ∷ 0 ∷ 0 ∷ 0 ∷ 0 ∷ 0 ∷ 0 ∷ 0 ∷ 0 ∷ [])
+    ∷ (64 ∷ []) ∷ []
 unfolding le_bytes
 v6_is_fed = refl
 

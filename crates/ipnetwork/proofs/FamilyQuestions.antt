@@ -1,17 +1,6 @@
 -- Each question about a network of either family is answered as in its own family.
-use Rattle.std.proofs.Common.{◌≡◌, ◌↔◌, ℕ, Result, Ok, Err, refl}
-use Rattle.ipnetwork_addr.specs.Ipv4Text.{canonical_v4}
-use Rattle.ipnetwork_addr.specs.Computed.Ipv6Canonical.{canonical_v6}
+use Rattle.ipnetwork.proofs.Words.{◌≡◌, ◌↔◌, ℕ, Result, Ok, Err, refl, canonical_v4, canonical_v6, NamesV4Network, NamesV6Network, MaskIsConverted, GivesPrefixOfMask, IpNetworkError, IsIpNetwork, GivesMaskPrefix, ip_mask_of, prefix_of, IsV4, IsV6, TakesV4, TakesV6, AsksItsFamily, MakesInItsFamily, ReadsInItsFamily, TakesItsFamily, IpNetwork, V4, V6}
 use Rattle.ipnetwork_addr.specs.declared.ip.IpAddr.TheVariants as addresses
-use Rattle.ipnetwork_family.specs.Ipv4NetworkText.{NamesV4Network}
-use Rattle.ipnetwork_family.specs.Ipv6NetworkText.{NamesV6Network}
-use Rattle.ipnetwork_family.specs.Laws.{MaskIsConverted}
-use Rattle.ipnetwork_family.specs.Masks.{GivesPrefixOfMask}
-use Rattle.ipnetwork_family.specs.declared.error.IpNetworkError.{IpNetworkError}
-use Rattle.ipnetwork.specs.IpNetworks.{IsIpNetwork, GivesMaskPrefix, ip_mask_of, prefix_of, IsV4, IsV6, TakesV4, TakesV6}
-use Rattle.ipnetwork.specs.Laws.{AsksItsFamily, MakesInItsFamily, ReadsInItsFamily, TakesItsFamily}
-use Rattle.ipnetwork.specs.declared.ip_network.IpNetwork.{IpNetwork}
-use Rattle.ipnetwork.specs.declared.ip_network.IpNetwork.TheVariants.{V4, V6}
 use Rattle.ipnetwork.specs.declared.size.NetworkSize.TheVariants as sizes
 use Rattle.ipnetwork.proofs.Families.{subnet_v4, subnet_v6, overlap_v4, overlap_v6}
 
@@ -56,22 +45,41 @@ v6_asks = record {
 
 -- ---- making networks, and masks
 
-v4_converts : (mask : ℕ) (result : Result ℕ IpNetworkError) → GivesMaskPrefix (addresses.V4 mask) result ↔ GivesPrefixOfMask 32 mask result
+v4_converts : (mask : ℕ) (result : Result ℕ IpNetworkError) → GivesMaskPrefix (addresses.V4 mask) result
+    ↔ GivesPrefixOfMask 32 mask result
 v4_converts mask (Ok p) = same
 v4_converts mask (Err fault) = ((λ h. (h.0, λ p fits is. h.1 p (fits, is))), (λ h. (h.0, λ p m. h.1 p m.0 m.1)))
 
-v6_converts : (mask : ℕ) (result : Result ℕ IpNetworkError) → GivesMaskPrefix (addresses.V6 mask) result ↔ GivesPrefixOfMask 128 mask result
+v6_converts : (mask : ℕ) (result : Result ℕ IpNetworkError) → GivesMaskPrefix (addresses.V6 mask) result
+    ↔ GivesPrefixOfMask 128 mask result
 v6_converts mask (Ok p) = same
 v6_converts mask (Err fault) = ((λ h. (h.0, λ p fits is. h.1 p (fits, is))), (λ h. (h.0, λ p m. h.1 p m.0 m.1)))
 
 pub v4_makes : MakesInItsFamily 32 V4 addresses.V4
-v4_makes = record { width = λ a. refl; made = λ a p. refl; makes = λ a p result. same; is_mask = λ mask p. same; converts = v4_converts }
+v4_makes =
+    record {
+      width = λ a. refl;
+      made = λ a p. refl;
+      makes = λ a p result. same;
+      is_mask = λ mask p. same;
+      converts =
+          v4_converts;
+    }
 
 pub v6_makes : MakesInItsFamily 128 V6 addresses.V6
-v6_makes = record { width = λ a. refl; made = λ a p. refl; makes = λ a p result. same; is_mask = λ mask p. same; converts = v6_converts }
+v6_makes =
+    record {
+      width = λ a. refl;
+      made = λ a p. refl;
+      makes = λ a p result. same;
+      is_mask = λ mask p. same;
+      converts =
+          v6_converts;
+    }
 
 -- the mask of a network converts to its prefix length
-pub mask_converted : MaskIsConverted → (n : IpNetwork) (result : Result ℕ IpNetworkError) → IsIpNetwork n → GivesMaskPrefix (ip_mask_of n) result → result ≡ Ok (prefix_of n)
+pub mask_converted : MaskIsConverted → (n : IpNetwork) (result : Result ℕ IpNetworkError) → IsIpNetwork n
+    → GivesMaskPrefix (ip_mask_of n) result → result ≡ Ok (prefix_of n)
 mask_converted law (V4 n) result h given = (law 32 n.prefix result h.prefix_fits).0 ((v4_converts _ result).0 given)
 mask_converted law (V6 n) result h given = (law 128 n.prefix result h.prefix_fits).0 ((v6_converts _ result).0 given)
 
@@ -84,7 +92,9 @@ pub v6_reads : ReadsInItsFamily V6 NamesV6Network canonical_v6
 v6_reads = record { names = λ text n. same; printed = λ n. refl }
 
 pub v4_takes : TakesItsFamily V4 V6 IsV4 TakesV4
-v4_takes = record { is_own = λ n. tt; is_no_other = λ n h. h; takes_own = λ n result. same; takes_no_other = λ n result. same }
+v4_takes =
+    record { is_own = λ n. tt; is_no_other = λ n h. h; takes_own = λ n result. same; takes_no_other = λ n result. same }
 
 pub v6_takes : TakesItsFamily V6 V4 IsV6 TakesV6
-v6_takes = record { is_own = λ n. tt; is_no_other = λ n h. h; takes_own = λ n result. same; takes_no_other = λ n result. same }
+v6_takes =
+    record { is_own = λ n. tt; is_no_other = λ n h. h; takes_own = λ n result. same; takes_no_other = λ n result. same }

@@ -1,7 +1,7 @@
 mod CauseExamples
 mod Causes
-mod Examples
 mod EitherNetworks
+mod Examples
 mod Families
 mod FamilyQuestions
 mod FirstMarks
@@ -9,3 +9,5 @@ mod LawExamples
 mod Listings
 mod Masked
 mod Parsed
+pub mod Known
+pub mod Words

@@ -1,11 +1,6 @@
 -- Networks made with a mask of either family.
-use Rattle.std.proofs.Common.{◌≡◌, ℕ, ◌<◌, ◌≤◌, Ok, Err, refl, sym, ap, subst, ◌∙◌}
-use Rattle.ipnetwork_addr.specs.declared.ip.IpAddr.{IpAddr}
+use Rattle.ipnetwork.proofs.Words.{◌≡◌, ℕ, ◌<◌, ◌≤◌, Ok, Err, refl, sym, ap, subst, ◌∙◌, IpAddr, MasksDiffer, InvalidPrefix, prefix_of, made_of, width_of, IsIpMask, MaskedIsMade, NoMaskIsRefused}
 use Rattle.ipnetwork_addr.specs.declared.ip.IpAddr.TheVariants as addresses
-use Rattle.ipnetwork_family.specs.Laws.{MasksDiffer}
-use Rattle.ipnetwork_family.specs.declared.error.IpNetworkError.TheVariants.{InvalidPrefix}
-use Rattle.ipnetwork.specs.IpNetworks.{prefix_of, made_of, width_of, IsIpMask}
-use Rattle.ipnetwork.specs.Laws.{MaskedIsMade, NoMaskIsRefused}
 
 prefix_of_made : (ip : IpAddr) (p : ℕ) → prefix_of (made_of ip p) ≡ p
 prefix_of_made (addresses.V4 a) p = refl
@@ -18,7 +13,8 @@ one_mask law (addresses.V6 m) p q h k = law 128 p q h.0 k.0 (sym h.1 ∙ k.1)
 
 pub masked_is_made : MasksDiffer → MaskedIsMade
 masked_is_made law ip mask p (Ok n) is = (
-  (λ h. subst (λ (q : ℕ). (n ≡ made_of ip q) × (q ≤ width_of ip)) (one_mask law mask (prefix_of n) p h.2 is) (h.0, h.1)),
+  (λ h. subst (λ (q : ℕ). (n ≡ made_of ip q) × (q ≤ width_of ip)) (one_mask law mask (prefix_of n) p h.2 is)
+      (h.0, h.1)),
   (λ h.
       let back : p ≡ prefix_of n = sym (ap prefix_of h.0 ∙ prefix_of_made ip p) in
       subst (λ (q : ℕ). (n ≡ made_of ip q) × (q ≤ width_of ip) × IsIpMask mask q) back (h.0, h.1, is)),

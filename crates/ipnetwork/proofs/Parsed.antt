@@ -1,8 +1,5 @@
 -- Parsing networks of either family returns what reading does.
-use Rattle.std.proofs.Common.{Ok, Err}
-use Rattle.ipnetwork_addr.specs.declared.error.AddrParseError.TheVariants.{Ip}
-use Rattle.ipnetwork_family.specs.Parsing.{ParsesAsItReads}
-use Rattle.ipnetwork.specs.IpNetworkText.{ReadsIpNetwork, ParsesIpNetwork}
+use Rattle.ipnetwork.proofs.Words.{Ok, Err, Ip, ParsesAsItReads, ReadsIpNetwork, ParsesIpNetwork}
 
 pub parses_as_it_reads : ParsesAsItReads ReadsIpNetwork Ip ParsesIpNetwork
 parses_as_it_reads text (Ok n) = ((λ h. h), (λ h. h))

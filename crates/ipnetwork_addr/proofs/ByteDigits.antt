@@ -1,8 +1,5 @@
 -- The bytes of a number by position are its digits in base 256. Also used by `ipnetwork_witness`.
-use Rattle.std.proofs.Common.{◌≡◌, ℕ, zero, suc, ◌/◌, ◌%◌, ◌^◌, [], ◌∷◌, ◌++◌, refl, sym, ap, ap₂, ◌∙◌}
-use Rattle.std.proofs.Math.Nat.{div-div-eq-div-mul, pow-succ'}
-use Rattle.std.specs.Int.{byte_at, bytes_high_first}
-use Rattle.ipnetwork_addr.specs.Digits.{digits_in}
+use Rattle.ipnetwork_addr.proofs.Words.{◌≡◌, ℕ, zero, suc, ◌/◌, ◌%◌, ◌^◌, [], ◌∷◌, ◌++◌, refl, sym, ap, ap₂, ◌∙◌, div-div-eq-div-mul, pow-succ', byte_at, bytes_high_first, digits_in}
 
 byte_above : (k n : ℕ) → byte_at (suc k) n ≡ byte_at k (n / 256)
 byte_above zero n = refl

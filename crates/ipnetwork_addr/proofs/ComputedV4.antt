@@ -1,17 +1,6 @@
 -- The address that an IPv4 text names, computed.
-use Rattle.std.proofs.Common.{◌≡◌, ℕ, ◌/◌, ◌%◌, ◌^◌, ◌<◌, ◌≤◌, ◌==◌, true, false, cond, List, [], ◌∷◌, ◌++◌, map, decimal, Option, None, Some, refl, sym, ap, subst, ◌∙◌, arith, append-nil}
-use Rattle.std.proofs.lemmas.Bool.{cond_both, ltb-true, lt-ltb, ne_eqb}
-use Rattle.std.proofs.lemmas.Option.{none-some, same_Some}
-use Rattle.std.proofs.lemmas.Slice.Eq.{bytes_eq-Decides}
-use Rattle.std.proofs.lemmas.Fmt.{decimal_is_IsNumeral}
-use Rattle.std.proofs.lemmas.Str.Parse.{digit_from_value}
-use Rattle.std.specs.Prelude.{nat_lt, bytes_eq}
-use Rattle.std.specs.List.{slice_split}
-use Rattle.std.specs.Int.Digits.{number_from_digits}
-use Rattle.std.specs.Str.Parse.{AllDigits, digits_value}
-use Rattle.ipnetwork_addr.specs.Texts.{dot}
-use Rattle.ipnetwork_addr.specs.Ipv4Text.{NamesV4, canonical_v4}
-use Rattle.ipnetwork_addr.specs.Computed.Ipv4Text.{v4_of}
+use Rattle.ipnetwork_addr.proofs.Words.{◌≡◌, ℕ, ◌/◌, ◌%◌, ◌^◌, ◌<◌, ◌≤◌, ◌==◌, true, false, cond, List, [], ◌∷◌, ◌++◌, map, decimal, Option, None, Some, refl, sym, ap, subst, ◌∙◌, arith, append-nil, cond_both, ltb-true, lt-ltb, ne_eqb, none-some, same_Some, bytes_eq-Decides, decimal_is_IsNumeral, digit_from_value, bytes_eq, slice_split, number_from_digits, AllDigits, digits_value, dot, NamesV4, canonical_v4, v4_of}
+use Rattle.std.specs.Prelude.{nat_lt}
 use Rattle.ipnetwork_addr.proofs.Ipv4Lemmas.{Chain, reading_of, number_of, canonical_v4_names}
 
 named_by_print : (text : List ℕ) (n : ℕ) → n < 2 ^ 32 → text ≡ canonical_v4 n → NamesV4 text n
@@ -22,7 +11,8 @@ v4_of_sound text address =
     let n : ℕ = number_from_digits 256 (map (digits_value 10) (slice_split (λ b. b == dot) text)) in
     cond_both (nat_lt n (2 ^ 32)) _ _ (λ (r : Option ℕ). r ≡ Some address → NamesV4 text address)
     (λ fits. cond_both (bytes_eq text (canonical_v4 n)) _ _ (λ (r : Option ℕ). r ≡ Some address → NamesV4 text address)
-    (λ same e. subst (NamesV4 text) (same_Some n address e) (named_by_print text n (ltb-true n (2 ^ 32) fits) ((bytes_eq-Decides text (canonical_v4 n)).0 same)))
+    (λ same e. subst (NamesV4 text) (same_Some n address e)
+    (named_by_print text n (ltb-true n (2 ^ 32) fits) ((bytes_eq-Decides text (canonical_v4 n)).0 same)))
     (λ other e. absurd (none-some address e)))
     (λ past e. absurd (none-some address e))
 
@@ -34,7 +24,8 @@ NoDot (x ∷ xs) = ((x == dot) ≡ false) × NoDot xs
 
 digits_no_dot : (ds : List ℕ) → AllDigits 10 ds → NoDot ds
 digits_no_dot [] h = tt
-digits_no_dot (d ∷ ds) h = let within = digit_from_value d h.0 in (ne_eqb d dot (λ e. omega arith), digits_no_dot ds h.1)
+digits_no_dot (d ∷ ds) h = let within = digit_from_value d h.0 in
+    (ne_eqb d dot (λ e. omega arith), digits_no_dot ds h.1)
 
 split_at : (a b : List ℕ) → NoDot a → slice_split (λ x. x == dot) (a ++ dot ∷ b) ≡ a ∷ slice_split (λ x. x == dot) b
 split_at [] b h = refl
@@ -50,7 +41,8 @@ decimal_no_dot n bound = digits_no_dot (decimal n) (decimal_is_IsNumeral n (omeg
 decimal_value : (n : ℕ) → n ≤ 255 → digits_value 10 (decimal n) ≡ n
 decimal_value n bound = (decimal_is_IsNumeral n (omega arith)).1
 
-spelled_out : (text : List ℕ) (a b c d : ℕ) → Chain text a b c d → text ≡ decimal a ++ dot ∷ (decimal b ++ dot ∷ (decimal c ++ dot ∷ decimal d))
+spelled_out : (text : List ℕ) (a b c d : ℕ) → Chain text a b c d
+    → text ≡ decimal a ++ dot ∷ (decimal b ++ dot ∷ (decimal c ++ dot ∷ decimal d))
 spelled_out text a b c d k =
     k.first.split
     ∙ ap (λ z. decimal a ++ z) (k.second.dotted
@@ -60,7 +52,8 @@ spelled_out text a b c d k =
     ∙ ap (λ z. decimal c ++ z) (k.fourth.dotted
     ∙ ap (λ z. dot ∷ z) (k.fourth.begins.split ∙ append-nil (decimal d)))))))
 
-parts_of : (text : List ℕ) (a b c d : ℕ) → Chain text a b c d → map (digits_value 10) (slice_split (λ x. x == dot) text) ≡ a ∷ b ∷ c ∷ d ∷ []
+parts_of : (text : List ℕ) (a b c d : ℕ) → Chain text a b c d
+    → map (digits_value 10) (slice_split (λ x. x == dot) text) ≡ a ∷ b ∷ c ∷ d ∷ []
 parts_of text a b c d k =
     let bound_a = k.first.bound in
     let bound_b = k.second.begins.bound in
@@ -72,10 +65,12 @@ parts_of text a b c d k =
     ∙ ap (λ z. decimal a ∷ z) (split_at (decimal b) (decimal c ++ dot ∷ decimal d) (decimal_no_dot b bound_b)
     ∙ ap (λ z. decimal b ∷ z) (split_at (decimal c) (decimal d) (decimal_no_dot c bound_c)
     ∙ ap (λ z. decimal c ∷ z) (split_none (decimal d) (decimal_no_dot d bound_d)))) in
-    ap (map (digits_value 10)) parts ∙ rw (decimal_value a bound_a, decimal_value b bound_b, decimal_value c bound_c, decimal_value d bound_d)
+    ap (map (digits_value 10)) parts
+    ∙ rw (decimal_value a bound_a, decimal_value b bound_b, decimal_value c bound_c, decimal_value d bound_d)
 
 -- a text that names an address is its canonical text
-own_text : (text : List ℕ) (a b c d : ℕ) → Chain text a b c d → (number_of a b c d < 2 ^ 32) × (text ≡ canonical_v4 (number_of a b c d))
+own_text : (text : List ℕ) (a b c d : ℕ) → Chain text a b c d → (number_of a b c d < 2 ^ 32)
+    × (text ≡ canonical_v4 (number_of a b c d))
 own_text text a b c d k =
     let bound_a = k.first.bound in
     let bound_b = k.second.begins.bound in

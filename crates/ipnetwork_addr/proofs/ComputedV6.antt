@@ -1,23 +1,6 @@
 -- The address that an IPv6 text names, computed.
-use Rattle.std.proofs.Common.{◌≡◌, ℕ, zero, suc, ◌+◌, ◌-◌, ◌^◌, ◌<◌, ◌≤◌, ◌==◌, inl, inr, Bool, true, false, cond, List, [], ◌∷◌, ◌++◌, length, take, drop, replicate, Option, None, Some, refl, sym, ap, subst, ◌∙◌, arith, append_assoc, take-append-drop, length-append, decimal}
-use Rattle.std.proofs.lemmas.Bool.{cond_both, ltb-true, lt-ltb, leb-true, le-leb, eqb-true, eq-eqb, ne_eqb, cases_eq}
-use Rattle.std.proofs.lemmas.Option.{none-some, same_Some}
-use Rattle.std.proofs.lemmas.List.{take_at, drop_at, drop-drop}
-use Rattle.std.proofs.lemmas.List.Splits.{join_with_byte-slice_split}
-use Rattle.std.proofs.lemmas.Slice.Eq.{bytes_eq-Decides}
-use Rattle.std.specs.Prelude.{◌&&◌, nat_lt, nat_le, bytes_eq, codes}
-use Rattle.std.specs.Char.{digit_value, is_digit}
-use Rattle.std.specs.List.{list_all, join_with_byte, AllZip}
-use Rattle.std.specs.Int.Digits.{number_from_digits}
-use Rattle.std.specs.Str.Parse.{AllDigits, digits_value}
-use Rattle.ipnetwork_addr.specs.Texts.{colon}
-use Rattle.ipnetwork_addr.specs.Ipv4Text.{NamesV4}
-use Rattle.ipnetwork_addr.specs.Computed.Ipv4Text.{v4_of}
-use Rattle.ipnetwork_addr.specs.Ipv6Text.{IsGroup, IsPlain, IsDotted, IsEnded, NamesV6, two_groups}
-use Rattle.ipnetwork_addr.specs.Computed.Ipv6Text.{or_else, group_of, grouped, groups_of, two_groups_of, dotted_groups_of, colon_parts, plain_of, dotted_of, full_number, gap_number, gap_at, gap_below, v6_of}
-use Rattle.std.proofs.lemmas.Fmt.{decimal_is_IsNumeral}
-use Rattle.std.proofs.lemmas.Str.Parse.{digit_from_value}
-use Rattle.ipnetwork_addr.specs.Private.OctetFront.{BeginsWithOctet}
+use Rattle.ipnetwork_addr.proofs.Words.{◌≡◌, ℕ, zero, suc, ◌+◌, ◌-◌, ◌^◌, ◌<◌, ◌≤◌, ◌==◌, inl, inr, Bool, true, false, cond, List, [], ◌∷◌, ◌++◌, length, take, drop, replicate, Option, None, Some, refl, sym, ap, subst, ◌∙◌, arith, append_assoc, take-append-drop, length-append, decimal, cond_both, ltb-true, lt-ltb, leb-true, le-leb, eqb-true, eq-eqb, ne_eqb, cases_eq, none-some, same_Some, take_at, drop_at, drop-drop, join_with_byte-slice_split, bytes_eq-Decides, ◌&&◌, nat_le, bytes_eq, codes, digit_value, is_digit, list_all, join_with_byte, AllZip, number_from_digits, AllDigits, digits_value, colon, NamesV4, v4_of, IsGroup, IsPlain, IsDotted, IsEnded, NamesV6, two_groups, or_else, group_of, grouped, groups_of, two_groups_of, dotted_groups_of, colon_parts, plain_of, dotted_of, full_number, gap_number, gap_at, gap_below, v6_of, decimal_is_IsNumeral, digit_from_value, BeginsWithOctet}
+use Rattle.std.specs.Prelude.{nat_lt}
 use Rattle.ipnetwork_addr.proofs.Octets.{BeginsWithDottedOctet}
 use Rattle.ipnetwork_addr.proofs.Compressed.{room_of, compressed}
 use Rattle.ipnetwork_addr.proofs.Ipv4Lemmas.{reading_of}
@@ -45,7 +28,12 @@ group_sound text g =
     cond_both (nat_lt 0 (length text)) _ _ (λ (r : Option ℕ). r ≡ Some g → IsGroup text g)
     (λ some. cond_both (nat_le (length text) 4) _ _ (λ (r : Option ℕ). r ≡ Some g → IsGroup text g)
     (λ short. cond_both (list_all (λ b. is_digit b 16) text) _ _ (λ (r : Option ℕ). r ≡ Some g → IsGroup text g)
-    (λ digits e. record { digits = (ltb-true 0 (length text) some, hex_digits text digits); short = leb-true (length text) 4 short; value = sym (same_Some _ g e) })
+    (λ digits e.
+    record {
+      digits = (ltb-true 0 (length text) some, hex_digits text digits);
+      short = leb-true (length text) 4 short;
+      value = sym (same_Some _ g e);
+    })
     (λ other e. absurd (none-some g e)))
     (λ long e. absurd (none-some g e)))
     (λ empty e. absurd (none-some g e))
@@ -60,7 +48,8 @@ group_complete text g h =
 
 -- ---- groups in a row
 
-grouped_parts : (a : Option ℕ) (b : Option (List ℕ)) (gs : List ℕ) → grouped a b ≡ Some gs → (g : ℕ) × (hs : List ℕ) × (a ≡ Some g) × (b ≡ Some hs) × (gs ≡ g ∷ hs)
+grouped_parts : (a : Option ℕ) (b : Option (List ℕ)) (gs : List ℕ) → grouped a b ≡ Some gs
+    → (g : ℕ) × (hs : List ℕ) × (a ≡ Some g) × (b ≡ Some hs) × (gs ≡ g ∷ hs)
 grouped_parts (Some g) (Some hs) gs e = (g, hs, refl, refl, sym (same_Some _ gs e))
 grouped_parts (Some g) None gs e = absurd (none-some gs e)
 grouped_parts None b gs e = absurd (none-some gs e)
@@ -84,7 +73,8 @@ NoColon [] = Unit {0}
 NoColon (x ∷ xs) = ((x == colon) ≡ false) × NoColon xs
 
 hex_is_no_colon : (x : ℕ) → digit_value x < 16 → (x == colon) ≡ false
-hex_is_no_colon x below = ne_eqb x colon (λ e. let k : digit_value colon < 16 = subst (λ (y : ℕ). digit_value y < 16) e below in omega (arith, k))
+hex_is_no_colon x below = ne_eqb x colon
+    (λ e. let k : digit_value colon < 16 = subst (λ (y : ℕ). digit_value y < 16) e below in omega (arith, k))
 
 digits_no_colon : (text : List ℕ) → AllDigits 16 text → NoColon text
 digits_no_colon [] h = tt
@@ -103,9 +93,11 @@ NoColons [] = Unit {0}
 NoColons (part ∷ parts) = NoColon part × NoColons parts
 
 -- splitting joined parts at the colons gives the parts back
-cut_again : (part : List ℕ) (parts : List (List ℕ)) → NoColons (part ∷ parts) → colon_parts (join_with_byte colon (part ∷ parts)) ≡ part ∷ parts
+cut_again : (part : List ℕ) (parts : List (List ℕ)) → NoColons (part ∷ parts)
+    → colon_parts (join_with_byte colon (part ∷ parts)) ≡ part ∷ parts
 cut_again part [] h = split_none part h.0
-cut_again part (next ∷ parts) h = split_at part (join_with_byte colon (next ∷ parts)) h.0 ∙ ap (λ ps. part ∷ ps) (cut_again next parts h.1)
+cut_again part (next ∷ parts) h = split_at part (join_with_byte colon (next ∷ parts)) h.0
+    ∙ ap (λ ps. part ∷ ps) (cut_again next parts h.1)
 
 zip_no_colons : (parts : List (List ℕ)) (gs : List ℕ) → AllZip IsGroup parts gs → NoColons parts
 zip_no_colons [] gs h = tt
@@ -122,7 +114,8 @@ plain_sound (x ∷ text) gs e = record {
   named = groups_sound (colon_parts (x ∷ text)) gs e;
 }
 
-plain_nonempty : (text : List ℕ) (part : List ℕ) (parts : List (List ℕ)) (g : ℕ) → text ≡ join_with_byte colon (part ∷ parts) → IsGroup part g → plain_of text ≡ groups_of (colon_parts text)
+plain_nonempty : (text : List ℕ) (part : List ℕ) (parts : List (List ℕ)) (g : ℕ)
+    → text ≡ join_with_byte colon (part ∷ parts) → IsGroup part g → plain_of text ≡ groups_of (colon_parts text)
 plain_nonempty (x ∷ text) part parts g e h = refl
 plain_nonempty [] part [] g e h = absurd (let k = ap length e in omega (arith, k, h.digits.0))
 plain_nonempty [] (y ∷ part) (next ∷ parts) g e h = cc
@@ -131,7 +124,8 @@ plain_nonempty [] [] (next ∷ parts) g e h = cc
 plain_complete : (text gs : List ℕ) → IsPlain text gs → plain_of text ≡ Some gs
 plain_complete text gs h = go h.parts gs h.spelled h.named
   where
-    go : (parts : List (List ℕ)) (gs : List ℕ) → text ≡ join_with_byte colon parts → AllZip IsGroup parts gs → plain_of text ≡ Some gs
+    go : (parts : List (List ℕ)) (gs : List ℕ) → text ≡ join_with_byte colon parts → AllZip IsGroup parts gs
+        → plain_of text ≡ Some gs
     go [] [] e named = ap plain_of e
     go [] (g ∷ gs) e named = absurd named
     go (part ∷ parts) [] e named = absurd named
@@ -142,7 +136,8 @@ plain_complete text gs h = go h.parts gs h.spelled h.named
 
 -- ---- texts that end in an IPv4 text
 
-halves_some : (o : Option ℕ) (gs : List ℕ) → two_groups_of o ≡ Some gs → (address : ℕ) × (o ≡ Some address) × (gs ≡ two_groups address)
+halves_some : (o : Option ℕ) (gs : List ℕ) → two_groups_of o ≡ Some gs → (address : ℕ) × (o ≡ Some address)
+    × (gs ≡ two_groups address)
 halves_some None gs e = absurd (none-some gs e)
 halves_some (Some a) gs e = (a, refl, sym (same_Some (two_groups a) gs e))
 
@@ -161,7 +156,17 @@ dotted_parts_sound : (parts : List (List ℕ)) (gs : List ℕ) → dotted_groups
 dotted_parts_sound [] gs e = absurd (none-some gs e)
 dotted_parts_sound (part ∷ []) gs e =
     let (address, f, same) = halves_some (v4_of part) gs e in
-    record { front_parts = []; front = []; last = part; address = address; spelled = refl; named = tt; dotted = v4_of_sound part address f; value = same }
+    record {
+      front_parts = [];
+      front = [];
+      last = part;
+      address = address;
+      spelled = refl;
+      named = tt;
+      dotted =
+          v4_of_sound part address f;
+      value = same;
+    }
 dotted_parts_sound (part ∷ next ∷ parts) gs e =
     let (g, hs, f, k, same) = grouped_parts (group_of part) (dotted_groups_of (next ∷ parts)) gs e in
     let later = dotted_parts_sound (next ∷ parts) hs k in
@@ -196,77 +201,95 @@ NoColon-append (x ∷ a) b h k = (h.0, NoColon-append a b h.1 k)
 
 decimals_no_colon : (ds : List ℕ) → AllDigits 10 ds → NoColon ds
 decimals_no_colon [] h = tt
-decimals_no_colon (d ∷ ds) h = let within = digit_from_value d h.0 in (ne_eqb d colon (λ e. omega arith), decimals_no_colon ds h.1)
+decimals_no_colon (d ∷ ds) h = let within = digit_from_value d h.0 in
+    (ne_eqb d colon (λ e. omega arith), decimals_no_colon ds h.1)
 
 octet_no_colon : (text : List ℕ) (n : ℕ) (rest : List ℕ) → BeginsWithOctet text n rest → NoColon rest → NoColon text
 octet_no_colon text n rest h k =
-    rw h.split (NoColon-append (decimal n) rest (decimals_no_colon (decimal n) (decimal_is_IsNumeral n (omega (arith, h.bound))).0.1) k)
+    rw h.split (NoColon-append (decimal n) rest
+    (decimals_no_colon (decimal n) (decimal_is_IsNumeral n (omega (arith, h.bound))).0.1) k)
 
-dotted_octet_no_colon : (text : List ℕ) (n : ℕ) (rest : List ℕ) → BeginsWithDottedOctet text n rest → NoColon rest → NoColon text
+dotted_octet_no_colon : (text : List ℕ) (n : ℕ) (rest : List ℕ) → BeginsWithDottedOctet text n rest → NoColon rest
+    → NoColon text
 dotted_octet_no_colon text n rest h k = rw h.dotted (refl, octet_no_colon h.after_dot n rest h.begins k)
 
 v4_no_colon : (text : List ℕ) (address : ℕ) → NamesV4 text address → NoColon text
 v4_no_colon text address h =
     let k = (reading_of text address h).chain in
-    octet_no_colon _ _ _ k.first (dotted_octet_no_colon _ _ _ k.second (dotted_octet_no_colon _ _ _ k.third (dotted_octet_no_colon _ _ _ k.fourth tt)))
+    octet_no_colon _ _ _ k.first (dotted_octet_no_colon _ _ _ k.second
+    (dotted_octet_no_colon _ _ _ k.third (dotted_octet_no_colon _ _ _ k.fourth tt)))
 
 no_colons_more : (parts : List (List ℕ)) (last : List ℕ) → NoColons parts → NoColon last → NoColons (parts ++ last ∷ [])
 no_colons_more [] last h k = (k, tt)
 no_colons_more (part ∷ parts) last h k = (h.0, no_colons_more parts last h.1 k)
 
-cut_again_more : (parts : List (List ℕ)) (last : List ℕ) → NoColons (parts ++ last ∷ []) → colon_parts (join_with_byte colon (parts ++ last ∷ [])) ≡ parts ++ last ∷ []
+cut_again_more : (parts : List (List ℕ)) (last : List ℕ) → NoColons (parts ++ last ∷ [])
+    → colon_parts (join_with_byte colon (parts ++ last ∷ [])) ≡ parts ++ last ∷ []
 cut_again_more [] last h = cut_again last [] h
 cut_again_more (part ∷ parts) last h = cut_again part (parts ++ last ∷ []) h
 
-dotted_groups_more : (part : List ℕ) (parts : List (List ℕ)) (last : List ℕ) → dotted_groups_of (part ∷ (parts ++ last ∷ [])) ≡ grouped (group_of part) (dotted_groups_of (parts ++ last ∷ []))
+dotted_groups_more : (part : List ℕ) (parts : List (List ℕ)) (last : List ℕ)
+    → dotted_groups_of (part ∷ (parts ++ last ∷ [])) ≡ grouped (group_of part) (dotted_groups_of (parts ++ last ∷ []))
 dotted_groups_more part [] last = refl
 dotted_groups_more part (next ∷ parts) last = refl
 
-dotted_parts_complete : (parts : List (List ℕ)) (front last : List ℕ) (address : ℕ) → AllZip IsGroup parts front → NamesV4 last address → dotted_groups_of (parts ++ last ∷ []) ≡ Some (front ++ two_groups address)
+dotted_parts_complete : (parts : List (List ℕ)) (front last : List ℕ) (address : ℕ) → AllZip IsGroup parts front
+    → NamesV4 last address → dotted_groups_of (parts ++ last ∷ []) ≡ Some (front ++ two_groups address)
 dotted_parts_complete [] [] last address named h = ap two_groups_of (v4_of_complete last address h)
 dotted_parts_complete [] (g ∷ front) last address named h = absurd named
 dotted_parts_complete (part ∷ parts) [] last address named h = absurd named
 dotted_parts_complete (part ∷ parts) (g ∷ front) last address named h =
-    dotted_groups_more part parts last ∙ rw (group_complete part g named.0, dotted_parts_complete parts front last address named.1 h) refl
+    dotted_groups_more part parts last
+    ∙ rw (group_complete part g named.0, dotted_parts_complete parts front last address named.1 h) refl
 
 dotted_complete : (text gs : List ℕ) → IsDotted text gs → dotted_of text ≡ Some gs
 dotted_complete text gs h =
-    let clean = no_colons_more h.parts h.last (zip_no_colons h.parts h.front h.named) (v4_no_colon h.last h.address h.dotted) in
+    let clean = no_colons_more h.parts h.last (zip_no_colons h.parts h.front h.named)
+    (v4_no_colon h.last h.address h.dotted) in
     ap dotted_groups_of (ap colon_parts h.spelled ∙ cut_again_more h.parts h.last clean)
     ∙ dotted_parts_complete h.parts h.front h.last h.address h.named h.dotted
     ∙ ap Some (sym h.value)
 
 -- ---- whole texts
 
-full_sound : (text : List ℕ) (groups : Option (List ℕ)) (a : ℕ) → ((gs : List ℕ) → groups ≡ Some gs → IsEnded text gs) → full_number groups ≡ Some a → NamesV6 text a
+full_sound : (text : List ℕ) (groups : Option (List ℕ)) (a : ℕ) → ((gs : List ℕ) → groups ≡ Some gs → IsEnded text gs)
+    → full_number groups ≡ Some a → NamesV6 text a
 full_sound text None a ended e = absurd (none-some a e)
 full_sound text (Some gs) a ended e =
     cond_both (length gs == 8) _ _ (λ (r : Option ℕ). r ≡ Some a → NamesV6 text a)
-    (λ eight f. inl (record { groups = gs; ended = ended gs refl; eight = eqb-true (length gs) 8 eight; value = sym (same_Some _ a f) }))
+    (λ eight f. inl (record
+    { groups = gs; ended = ended gs refl; eight = eqb-true (length gs) 8 eight; value = sym (same_Some _ a f) }))
     (λ other f. absurd (none-some a f)) e
 
-full_complete : (gs : List ℕ) (groups : Option (List ℕ)) → groups ≡ Some gs → length gs ≡ 8 → full_number groups ≡ Some (number_from_digits (2 ^ 16) gs)
-full_complete gs groups e eight = ap full_number e ∙ ap (λ v. cond v (Some (number_from_digits (2 ^ 16) gs)) None) (eq-eqb (length gs) 8 eight)
+full_complete : (gs : List ℕ) (groups : Option (List ℕ)) → groups ≡ Some gs → length gs ≡ 8
+    → full_number groups ≡ Some (number_from_digits (2 ^ 16) gs)
+full_complete gs groups e eight = ap full_number e ∙ ap (λ v. cond v (Some (number_from_digits (2 ^ 16) gs)) None)
+    (eq-eqb (length gs) 8 eight)
 
 -- ---- texts with a gap
 
-gap_sound : (text l r : List ℕ) (left right : Option (List ℕ)) (a : ℕ) → text ≡ l ++ (colon ∷ colon ∷ []) ++ r → ((gs : List ℕ) → left ≡ Some gs → IsPlain l gs) → ((gs : List ℕ) → right ≡ Some gs → IsEnded r gs)
+gap_sound : (text l r : List ℕ) (left right : Option (List ℕ)) (a : ℕ) → text ≡ l ++ (colon ∷ colon ∷ []) ++ r
+    → ((gs : List ℕ) → left ≡ Some gs → IsPlain l gs) → ((gs : List ℕ) → right ≡ Some gs → IsEnded r gs)
     → gap_number left right ≡ Some a → NamesV6 text a
 gap_sound text l r None right a cut plain ended e = absurd (none-some a e)
 gap_sound text l r (Some ls) None a cut plain ended e = absurd (none-some a e)
 gap_sound text l r (Some ls) (Some rs) a cut plain ended e =
     cond_both (nat_le (length ls + length rs) 7) _ _ (λ (o : Option ℕ). o ≡ Some a → NamesV6 text a)
-    (λ room f. inr (compressed text l r ls rs a cut (plain ls refl) (ended rs refl) (leb-true (length ls + length rs) 7 room) (sym (same_Some _ a f))))
+    (λ room f. inr (compressed text l r ls rs a cut (plain ls refl) (ended rs refl)
+    (leb-true (length ls + length rs) 7 room) (sym (same_Some _ a f))))
     (λ none f. absurd (none-some a f)) e
 
-or_else_sound : (P : ℕ → Type 0) (a b : Option ℕ) (x : ℕ) → ((y : ℕ) → a ≡ Some y → P y) → ((y : ℕ) → b ≡ Some y → P y) → or_else a b ≡ Some x → P x
+or_else_sound : (P : ℕ → Type 0) (a b : Option ℕ) (x : ℕ) → ((y : ℕ) → a ≡ Some y → P y) → ((y : ℕ) → b ≡ Some y → P y)
+    → or_else a b ≡ Some x → P x
 or_else_sound P (Some y) b x f g e = f x e
 or_else_sound P None b x f g e = g x e
 
-cut_at : (text : List ℕ) (i : ℕ) → take 2 (drop i text) ≡ colon ∷ colon ∷ [] → text ≡ take i text ++ (colon ∷ colon ∷ []) ++ drop (i + 2) text
+cut_at : (text : List ℕ) (i : ℕ) → take 2 (drop i text) ≡ colon ∷ colon ∷ []
+    → text ≡ take i text ++ (colon ∷ colon ∷ []) ++ drop (i + 2) text
 cut_at text i e =
     sym (take-append-drop i text)
-    ∙ ap (λ t. take i text ++ t) (sym (take-append-drop 2 (drop i text)) ∙ ap (λ t. t ++ drop 2 (drop i text)) e ∙ ap (λ t. (colon ∷ colon ∷ []) ++ t) (drop-drop 2 i text))
+    ∙ ap (λ t. take i text ++ t) (sym (take-append-drop 2 (drop i text)) ∙ ap (λ t. t ++ drop 2 (drop i text)) e
+    ∙ ap (λ t. (colon ∷ colon ∷ []) ++ t) (drop-drop 2 i text))
     ∙ sym (append_assoc (take i text) (colon ∷ colon ∷ []) (drop (i + 2) text))
 
 gap_at_sound : (text : List ℕ) (i a : ℕ) → gap_at text i ≡ Some a → NamesV6 text a
@@ -275,13 +298,15 @@ gap_at_sound text i a =
     (λ here. let cut = cut_at text i ((bytes_eq-Decides (take 2 (drop i text)) (codes "::")).0 here) in
     or_else_sound (NamesV6 text) _ _ a
     (λ y. gap_sound text _ _ _ _ y cut (plain_sound (take i text)) (λ gs e. inl (plain_sound (drop (i + 2) text) gs e)))
-    (λ y. gap_sound text _ _ _ _ y cut (plain_sound (take i text)) (λ gs e. inr (dotted_sound (drop (i + 2) text) gs e))))
+    (λ y. gap_sound text _ _ _ _ y cut (plain_sound (take i text))
+    (λ gs e. inr (dotted_sound (drop (i + 2) text) gs e))))
     (λ elsewhere e. absurd (none-some a e))
 
 gap_below_sound : (text : List ℕ) (n a : ℕ) → gap_below text n ≡ Some a → NamesV6 text a
 unfolding gap_below
 gap_below_sound text zero a e = absurd (none-some a e)
-gap_below_sound text (suc n) a e = or_else_sound (NamesV6 text) (gap_at text n) (gap_below text n) a (gap_at_sound text n) (gap_below_sound text n) e
+gap_below_sound text (suc n) a e = or_else_sound (NamesV6 text) (gap_at text n) (gap_below text n) a
+    (gap_at_sound text n) (gap_below_sound text n) e
 
 pub v6_of_sound : (text : List ℕ) (a : ℕ) → v6_of text ≡ Some a → NamesV6 text a
 unfolding v6_of
@@ -306,7 +331,8 @@ found_second : (a b : Option ℕ) → Found b → Found (or_else a b)
 found_second (Some x) b h = (x, refl)
 found_second None b h = h
 
-gap_found : (ls rs : List ℕ) (left right : Option (List ℕ)) → left ≡ Some ls → right ≡ Some rs → length ls + length rs ≤ 7 → Found (gap_number left right)
+gap_found : (ls rs : List ℕ) (left right : Option (List ℕ)) → left ≡ Some ls → right ≡ Some rs
+    → length ls + length rs ≤ 7 → Found (gap_number left right)
 gap_found ls rs left right e f room =
     let n : ℕ = number_from_digits (2 ^ 16) (ls ++ replicate (8 - length ls - length rs) 0 ++ rs) in
     (n, rw (e, f) (ap (λ v. cond v (Some n) None) (le-leb (length ls + length rs) 7 room)))
@@ -314,14 +340,16 @@ gap_found ls rs left right e f room =
 found_where : (b : Bool) (o : Option ℕ) → b ≡ true → Found o → Found (cond b o None)
 found_where b o e h = (h.0, ap (λ v. cond v o None) e ∙ h.1)
 
-gap_at_found : (text l r ls rs : List ℕ) → text ≡ l ++ (colon ∷ colon ∷ []) ++ r → IsPlain l ls → IsEnded r rs → length ls + length rs ≤ 7 → Found (gap_at text (length l))
+gap_at_found : (text l r ls rs : List ℕ) → text ≡ l ++ (colon ∷ colon ∷ []) ++ r → IsPlain l ls → IsEnded r rs
+    → length ls + length rs ≤ 7 → Found (gap_at text (length l))
 gap_at_found text l r ls rs cut plain ended room =
     let i : ℕ = length l in
     let whole : text ≡ l ++ (colon ∷ colon ∷ r) = cut ∙ append_assoc l (colon ∷ colon ∷ []) r in
     let front : take i text ≡ l = ap (take i) whole ∙ take_at l (colon ∷ colon ∷ r) i refl in
     let here : drop i text ≡ colon ∷ colon ∷ r = ap (drop i) whole ∙ drop_at l (colon ∷ colon ∷ r) i refl in
     let back : drop (i + 2) text ≡ r = sym (drop-drop 2 i text) ∙ ap (drop 2) here in
-    let test : bytes_eq (take 2 (drop i text)) (codes "::") ≡ true = (bytes_eq-Decides (take 2 (drop i text)) (codes "::")).1 (ap (take 2) here) in
+    let test : bytes_eq (take 2 (drop i text)) (codes "::") ≡ true =
+    (bytes_eq-Decides (take 2 (drop i text)) (codes "::")).1 (ap (take 2) here) in
     let left : plain_of (take i text) ≡ Some ls = ap plain_of front ∙ plain_complete l ls plain in
     found_where (bytes_eq (take 2 (drop i text)) (codes "::")) _ test (elim ended [
       | inl k ↦ found_first _ _ (gap_found ls rs _ _ left (ap plain_of back ∙ plain_complete r rs k) room)
@@ -339,12 +367,20 @@ gap_below_found text (suc n) i below h = elim (cases_eq i n) [
 found : (text : List ℕ) (a : ℕ) → NamesV6 text a → Found (v6_of text)
 unfolding v6_of
 found text a (inl h) = elim h.ended [
-  | inl k ↦ found_first _ _ (number_from_digits (2 ^ 16) h.groups, full_complete h.groups (plain_of text) (plain_complete text h.groups k) h.eight)
-  | inr k ↦ found_second _ _ (found_first _ _ (number_from_digits (2 ^ 16) h.groups, full_complete h.groups (dotted_of text) (dotted_complete text h.groups k) h.eight))
+  | inl k ↦ found_first _ _ (
+    number_from_digits (2 ^ 16) h.groups,
+    full_complete h.groups (plain_of text) (plain_complete text h.groups k) h.eight,
+  )
+  | inr k ↦ found_second _ _
+      (found_first _ _ (
+        number_from_digits (2 ^ 16) h.groups,
+        full_complete h.groups (dotted_of text) (dotted_complete text h.groups k) h.eight,
+      ))
 ]
 found text a (inr h) =
     let count : length text ≡ length h.before + (2 + length h.behind) =
-    ap length h.split ∙ length-append (h.before ++ (colon ∷ colon ∷ [])) h.behind ∙ (let k = length-append h.before (colon ∷ colon ∷ []) in omega arith) in
+    ap length h.split ∙ length-append (h.before ++ (colon ∷ colon ∷ [])) h.behind
+    ∙ (let k = length-append h.before (colon ∷ colon ∷ []) in omega arith) in
     found_second _ _ (found_second _ _ (gap_below_found text (length text) (length h.before) (omega arith)
     (gap_at_found text h.before h.behind h.high h.low h.split h.high_groups h.low_groups (room_of text a h))))
 

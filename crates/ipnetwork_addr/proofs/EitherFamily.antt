@@ -1,21 +1,13 @@
 -- Texts of an address of either family.
-use Rattle.std.proofs.Common.{◌≡◌, ◌↔◌, ℕ, List, ◌∷◌, length, Option, None, Some, sym, ap, subst, inl, inr, arith, lit≤}
-use Rattle.std.proofs.lemmas.Option.{none-some}
-use Rattle.ipnetwork_addr.specs.Texts.{dot, colon}
-use Rattle.ipnetwork_addr.specs.declared.ip.IpAddr.{IpAddr}
-use Rattle.ipnetwork_addr.specs.declared.ip.IpAddr.TheVariants.{V4, V6}
-use Rattle.ipnetwork_addr.specs.Ipv4Text.{NamesV4}
-use Rattle.ipnetwork_addr.specs.Ipv6Text.{NamesV6}
-use Rattle.ipnetwork_addr.specs.Computed.Ipv6Canonical.{canonical_v6}
-use Rattle.ipnetwork_addr.specs.Either.{NamesIp, canonical_ip, FitsIp}
-use Rattle.ipnetwork_addr.specs.Private.GroupFront.{NoHex, IsTextPart, IsLeft}
+use Rattle.ipnetwork_addr.proofs.Words.{◌≡◌, ◌↔◌, ℕ, List, ◌∷◌, length, Option, None, Some, sym, ap, subst, inl, inr, arith, lit≤, none-some, dot, colon, IpAddr, V4, V6, NamesV4, NamesV6, canonical_v6, NamesIp, canonical_ip, FitsIp, NoHex, IsTextPart, IsLeft}
 use Rattle.ipnetwork_addr.proofs.Ipv4Lemmas.{v4_unique, canonical_v4_names}
 use Rattle.ipnetwork_addr.proofs.Parts.{v4_begins, IsLast, IsDot, IsGap, IsNext, kind_of, no_hex_no_group, nil_cons, other_first}
 use Rattle.ipnetwork_addr.proofs.Ipv6Names.{Shape, Full, Gapped, shape_of, v6_unique}
 use Rattle.ipnetwork_addr.proofs.Ipv6Printed.{canonical_v6_names, canonical_v6_is}
 
 -- a text part that is an IPv4 text has two groups and reaches the end of the text
-alone : (groups text : List ℕ) (end : Option (List ℕ)) (address : ℕ) → NamesV4 text address → IsTextPart groups text end → (length groups ≡ 2) × (end ≡ None)
+alone : (groups text : List ℕ) (end : Option (List ℕ)) (address : ℕ) → NamesV4 text address → IsTextPart groups text end
+    → (length groups ≡ 2) × (end ≡ None)
 alone groups text end address named part =
     let b = v4_begins text address named in
     elim (kind_of groups text end b.group (dot ∷ b.after) b.begins part) [
@@ -51,5 +43,6 @@ canonical_ip_names (V6 address) fits = canonical_v6_names (canonical_v6 address)
 pub ip_one_to_one : (a b : IpAddr) → FitsIp a → FitsIp b → (a ≡ b) ↔ (canonical_ip a ≡ canonical_ip b)
 ip_one_to_one a b fits_a fits_b = (
   λ e. ap canonical_ip e,
-  λ e. ip_unique (canonical_ip a) a b (canonical_ip_names a fits_a) (subst (λ (t : List ℕ). NamesIp t b) (sym e) (canonical_ip_names b fits_b)),
+  λ e. ip_unique (canonical_ip a) a b (canonical_ip_names a fits_a)
+      (subst (λ (t : List ℕ). NamesIp t b) (sym e) (canonical_ip_names b fits_b)),
 )

@@ -1,27 +1,6 @@
 -- Texts and values at which a misreading of the definitions would show. All of these are proved by computing.
-use Rattle.std.proofs.Common.{◌≡◌, ℕ, ◌^◌, ◌-◌, ◌<◌, ◌≤◌, true, false, List, [], ◌∷◌, length, None, Some, refl, ap, arith, lit≤}
-use Rattle.std.specs.Prelude.{codes, map, Ok, Err}
-use Rattle.std.specs.Fmt.{digits}
-use Rattle.std.specs.Hash.{le_bytes}
-use Rattle.std.specs.Int.Digits.{number_from_digits}
-use Rattle.std.specs.declared.cmp.Ordering.TheVariants.{Less, Equal, Greater}
-use Rattle.ipnetwork_addr.specs.declared.error.AddrParseError.{AddrParseError}
-use Rattle.ipnetwork_addr.specs.declared.error.AddrParseError.TheVariants.{Ipv4, Ipv6, Ip}
-use Rattle.ipnetwork_addr.specs.declared.ip.IpAddr.TheVariants.{V4, V6}
-use Rattle.ipnetwork_addr.specs.Digits.{octets_of, octets_of_v6, segments_of}
-use Rattle.ipnetwork_addr.specs.Either.{FitsIp, IsAddrBefore, IsAddrAtMost, ip_cmp, ip_writes, canonical_ip, unmapped}
-use Rattle.ipnetwork_addr.specs.Computed.Either.{ip_of}
-use Rattle.ipnetwork_addr.specs.Faults.{addr_fault_text}
-use Rattle.ipnetwork_addr.specs.Reading.{Reads}
-use Rattle.ipnetwork_addr.specs.Computed.Reading.{answer_from}
-use Rattle.ipnetwork_addr.specs.Segments.{number_of_segments}
-use Rattle.ipnetwork_addr.specs.Texts.{IsAddressByte, Digit, UpperHex, LowerHex, Dot, Colon, colon_first}
-use Rattle.ipnetwork_addr.specs.Ipv4Text.{NamesV4}
-use Rattle.ipnetwork_addr.specs.Computed.Ipv4Text.{v4_of}
-use Rattle.ipnetwork_addr.specs.Ipv6Canonical.{IsMapped}
-use Rattle.ipnetwork_addr.specs.Ipv6Text.{NamesV6}
-use Rattle.ipnetwork_addr.specs.Computed.Ipv6Canonical.{canonical_v6}
-use Rattle.ipnetwork_addr.specs.Computed.Ipv6Text.{v6_of, gap_below}
+use Rattle.ipnetwork_addr.proofs.Words.{◌≡◌, ℕ, ◌^◌, ◌-◌, ◌<◌, ◌≤◌, true, false, List, [], ◌∷◌, length, None, Some, refl, ap, arith, lit≤, codes, Ok, Err, digits, le_bytes, number_from_digits, Less, Equal, Greater, AddrParseError, Ipv4, Ipv6, Ip, V4, V6, octets_of, octets_of_v6, segments_of, FitsIp, IsAddrBefore, IsAddrAtMost, ip_cmp, ip_writes, canonical_ip, unmapped, ip_of, addr_fault_text, Reads, answer_from, number_of_segments, IsAddressByte, Digit, UpperHex, LowerHex, Dot, Colon, colon_first, NamesV4, v4_of, IsMapped, NamesV6, canonical_v6, v6_of, gap_below}
+use Rattle.std.specs.Prelude.{map}
 
 -- ---- digits of numbers
 
@@ -158,19 +137,24 @@ only byte (Dot is) dot digit upper lower = dot is
 only byte (Colon is) dot digit upper lower = digit (omega arith) (omega arith)
 
 pub none_before_the_dot : (byte : ℕ) → byte < 46 → ¬ (IsAddressByte byte)
-none_before_the_dot byte l h = only byte h (λ is. omega arith) (λ low high. omega arith) (λ low high. omega arith) (λ low high. omega arith)
+none_before_the_dot byte l h = only byte h (λ is. omega arith) (λ low high. omega arith) (λ low high. omega arith)
+    (λ low high. omega arith)
 
 pub slash_is_none : ¬ (IsAddressByte 47)
-slash_is_none h = only 47 h (λ is. omega arith) (λ low high. omega arith) (λ low high. omega arith) (λ low high. omega arith)
+slash_is_none h = only 47 h (λ is. omega arith) (λ low high. omega arith) (λ low high. omega arith)
+    (λ low high. omega arith)
 
 pub none_before_the_capitals : (byte : ℕ) → 58 < byte → byte < 65 → ¬ (IsAddressByte byte)
-none_before_the_capitals byte l m h = only byte h (λ is. omega arith) (λ low high. omega arith) (λ low high. omega arith) (λ low high. omega arith)
+none_before_the_capitals byte l m h =
+    only byte h (λ is. omega arith) (λ low high. omega arith) (λ low high. omega arith) (λ low high. omega arith)
 
 pub none_from_capital_g : (byte : ℕ) → 70 < byte → byte < 97 → ¬ (IsAddressByte byte)
-none_from_capital_g byte l m h = only byte h (λ is. omega arith) (λ low high. omega arith) (λ low high. omega arith) (λ low high. omega arith)
+none_from_capital_g byte l m h = only byte h (λ is. omega arith) (λ low high. omega arith) (λ low high. omega arith)
+    (λ low high. omega arith)
 
 pub none_from_letter_g : (byte : ℕ) → 102 < byte → ¬ (IsAddressByte byte)
-none_from_letter_g byte l h = only byte h (λ is. omega arith) (λ low high. omega arith) (λ low high. omega arith) (λ low high. omega arith)
+none_from_letter_g byte l h = only byte h (λ is. omega arith) (λ low high. omega arith) (λ low high. omega arith)
+    (λ low high. omega arith)
 
 -- ---- the first dot or colon of a text
 
@@ -254,7 +238,8 @@ pub mapped_ends : IsMapped 0xffff_0000_0000 × IsMapped 0xffff_ffff_ffff
 mapped_ends = (refl, refl)
 
 pub outside_mapped : ¬ (IsMapped 0xfffe_ffff_ffff) × ¬ (IsMapped 0x1_0000_0000_0000)
-outside_mapped = (λ h. let e : 0xfffe ≡ 0xffff = h in omega (arith, e), λ h. let e : 0x1_0000 ≡ 0xffff = h in omega (arith, e))
+outside_mapped =
+    (λ h. let e : 0xfffe ≡ 0xffff = h in omega (arith, e), λ h. let e : 0x1_0000 ≡ 0xffff = h in omega (arith, e))
 
 pub printed_at_the_ends :
     map canonical_v6 (0xfffe_ffff_ffff ∷ 0xffff_0000_0000 ∷ 0xffff_ffff_ffff ∷ 0x1_0000_0000_0000 ∷ [])

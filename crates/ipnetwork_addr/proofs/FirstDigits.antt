@@ -1,17 +1,13 @@
 -- Octets of two or three digits, from the table entries of their bytes.
-use Rattle.std.proofs.Common.{◌≡◌, ◌≢◌, ℕ, zero, suc, ◌+◌, ◌-◌, ◌*◌, ◌<◌, ◌≤◌, ◌==◌, ◌⊎◌, inl, inr, cond, nat_lt, Bool, true, false, List, [], ◌∷◌, length, take, drop, get_or, refl, sym, ap, ◌∙◌, subst, arith, length-drop, get_or-drop, drop-drop}
-use Rattle.std.proofs.Math.Nat.{mul-le-mul_left}
-use Rattle.std.proofs.lemmas.Bool.{cases_lt, cases_eq, lt-ltb, le-ltb, eq-eqb, ne_eqb}
-use Rattle.std.specs.Char.{digit_value}
-use Rattle.ipnetwork_addr.specs.Texts.{dot}
-use Rattle.ipnetwork_addr.specs.Ipv4Text.{IsOctet}
-use Rattle.ipnetwork_addr.specs.Private.OctetFront.{IsNoOctet, IsOctetEnd, HasNoOctetEnd, BeginsWithOctet, NoOctetAndDot, first_value, before_dot}
+use Rattle.ipnetwork_addr.proofs.Words.{◌≡◌, ◌≢◌, ℕ, zero, suc, ◌+◌, ◌-◌, ◌*◌, ◌<◌, ◌≤◌, ◌==◌, ◌⊎◌, inl, inr, cond, nat_lt, Bool, true, false, List, [], ◌∷◌, length, take, drop, get_or, refl, sym, ap, ◌∙◌, subst, arith, length-drop, get_or-drop, cases_lt, cases_eq, lt-ltb, le-ltb, eq-eqb, ne_eqb, digit_value, dot, IsOctet, IsNoOctet, IsOctetEnd, HasNoOctetEnd, BeginsWithOctet, NoOctetAndDot, first_value, before_dot}
+use Rattle.std.proofs.Common.{drop-drop}
 use Rattle.ipnetwork_addr.proofs.OctetFronts.{Value, two_digits, three_digits, no_octet_of_two, no_octet_of_three, no_end, no_octet_before, octet_before}
 
 -- a byte's value is at most 9, or 256 if the byte is no digit
 value_cases : (a v : ℕ) → Value a v → (v ≤ 9) ⊎ (v ≡ 256)
 value_cases a v value = elim (cases_lt (digit_value a) 10) [
-  | inl digit ↦ let k = value ∙ ap (λ b. cond b (digit_value a) 256) (lt-ltb (digit_value a) 10 digit) in inl (omega arith)
+  | inl digit ↦ let k = value ∙ ap (λ b. cond b (digit_value a) 256) (lt-ltb (digit_value a) 10 digit) in
+      inl (omega arith)
   | inr none ↦ inr (value ∙ ap (λ b. cond b (digit_value a) 256) (le-ltb (digit_value a) 10 none))
 ]
 
@@ -28,22 +24,26 @@ data First (t u : ℕ) : Type 0 where
 first_cases : (d t u : ℕ) → t ≡ tens d → u ≡ cond (nat_lt d 10) d 256 → First t u
 first_cases d t u first value = elim (cases_lt d 10) [
   | inl digit ↦
-      let t_is : t ≡ cond (nat_lt 0 d) (d * 10) 2560 = first ∙ ap (λ b. cond b (cond (nat_lt 0 d) (d * 10) 2560) 2560) (lt-ltb d 10 digit) in
+      let t_is : t ≡ cond (nat_lt 0 d) (d * 10) 2560 = first
+      ∙ ap (λ b. cond b (cond (nat_lt 0 d) (d * 10) 2560) 2560) (lt-ltb d 10 digit) in
       let u_is : u ≡ d = value ∙ ap (λ b. cond b d 256) (lt-ltb d 10 digit) in
       elim (cases_lt 0 d) [
-        | inl some ↦ let k : t ≡ d * 10 = t_is ∙ ap (λ b. cond b (d * 10) 2560) (lt-ltb 0 d some) in Digit (omega arith) (omega arith) (omega arith)
+        | inl some ↦ let k : t ≡ d * 10 = t_is ∙ ap (λ b. cond b (d * 10) 2560) (lt-ltb 0 d some) in
+            Digit (omega arith) (omega arith) (omega arith)
         | inr none ↦ Zero (t_is ∙ ap (λ b. cond b (d * 10) 2560) (le-ltb 0 d none)) (omega arith)
       ]
   | inr none ↦
-      None (first ∙ ap (λ b. cond b (cond (nat_lt 0 d) (d * 10) 2560) 2560) (le-ltb d 10 none)) (value ∙ ap (λ b. cond b d 256) (le-ltb d 10 none))
+      None (first ∙ ap (λ b. cond b (cond (nat_lt 0 d) (d * 10) 2560) 2560) (le-ltb d 10 none))
+      (value ∙ ap (λ b. cond b d 256) (le-ltb d 10 none))
 ]
 
 pub first_bound : (a t : ℕ) → t ≡ first_value a → t ≤ 2560
-first_bound a t first = elim (first_cases (digit_value a) t (cond (nat_lt (digit_value a) 10) (digit_value a) 256) first refl) [
-  | Digit is some few ↦ omega arith
-  | Zero is none ↦ omega arith
-  | None is none ↦ omega arith
-]
+first_bound a t first = elim (first_cases (digit_value a) t (cond (nat_lt (digit_value a) 10) (digit_value a) 256)
+    first refl) [
+      | Digit is some few ↦ omega arith
+      | Zero is none ↦ omega arith
+      | None is none ↦ omega arith
+    ]
 
 pub digit_bound : (a v : ℕ) → Value a v → v ≤ 256
 digit_bound a v value = elim (value_cases a v value) [ inl digit ↦ omega arith | inr none ↦ omega arith ]
@@ -66,10 +66,12 @@ third_cases : (c f w : ℕ) → Factor c f → Last c w → Third c f w
 third_cases c f w factor last = elim (cases_eq c dot) [
   | inl here ↦
       let is = eq-eqb c dot here in
-      IsDot is (factor ∙ ap (λ b. cond b 1 10) is) (last ∙ ap (λ b. cond b 0 (cond (nat_lt (digit_value c) 10) (digit_value c) 256)) is)
+      IsDot is (factor ∙ ap (λ b. cond b 1 10) is)
+      (last ∙ ap (λ b. cond b 0 (cond (nat_lt (digit_value c) 10) (digit_value c) 256)) is)
   | inr none ↦
       let is = ne_eqb c dot none in
-      NoDot is (factor ∙ ap (λ b. cond b 1 10) is) (last ∙ ap (λ b. cond b 0 (cond (nat_lt (digit_value c) 10) (digit_value c) 256)) is)
+      NoDot is (factor ∙ ap (λ b. cond b 1 10) is)
+      (last ∙ ap (λ b. cond b 0 (cond (nat_lt (digit_value c) 10) (digit_value c) 256)) is)
 ]
 
 pub no_dot_bound : (c n : ℕ) → n ≡ cond (c == dot) 0 1 → n ≤ 1
@@ -80,10 +82,12 @@ no_dot_bound c n is = few (c == dot) n is
     few false n e = omega (arith, e)
 
 pub factor_bound : (c f : ℕ) → Factor c f → f ≤ 10
-factor_bound c f factor = elim (third_cases c f _ factor refl) [ IsDot is one none ↦ omega arith | NoDot is ten value ↦ omega arith ]
+factor_bound c f factor =
+    elim (third_cases c f _ factor refl) [ IsDot is one none ↦ omega arith | NoDot is ten value ↦ omega arith ]
 
 pub last_bound : (c w : ℕ) → Last c w → w ≤ 256
-last_bound c w last = elim (third_cases c _ w refl last) [ IsDot is one none ↦ omega arith | NoDot is ten value ↦ digit_bound c w value ]
+last_bound c w last = elim (third_cases c _ w refl
+    last) [ IsDot is one none ↦ omega arith | NoDot is ten value ↦ digit_bound c w value ]
 
 -- ---- the octet of several digits
 
@@ -91,7 +95,8 @@ last_bound c w last = elim (third_cases c _ w refl last) [ IsDot is one none ↦
 abbrev value_of : ℕ → ℕ → ℕ → ℕ → ℕ
 value_of t v w more = t + v + ((t + v) * 9 + w) * more
 
-pub several_digits : (a b c : ℕ) {t v w : ℕ} (more n : ℕ) → t ≡ first_value a → Value b v → Value c w → more ≤ 1 → n ≡ value_of t v w more → n ≤ 255
+pub several_digits : (a b c : ℕ) {t v w : ℕ} (more n : ℕ) → t ≡ first_value a → Value b v → Value c w → more ≤ 1
+    → n ≡ value_of t v w more → n ≤ 255
     → IsOctet (take (2 + more) (a ∷ b ∷ c ∷ [])) n
 several_digits a b c {t} {v} {w} zero n first second third few is low =
     let u : ℕ = cond (nat_lt (digit_value a) 10) (digit_value a) 256 in
@@ -112,7 +117,8 @@ several_digits a b c {t} {v} {w} (suc zero) n first second third few is low =
     ]
 several_digits a b c (suc (suc more)) n first second third few is low = absurd (omega arith)
 
-pub no_octet_of_several : (a b c : ℕ) {t v w : ℕ} (more : ℕ) → t ≡ first_value a → Value b v → Value c w → more ≤ 1 → 255 < value_of t v w more
+pub no_octet_of_several : (a b c : ℕ) {t v w : ℕ} (more : ℕ) → t ≡ first_value a → Value b v → Value c w → more ≤ 1
+    → 255 < value_of t v w more
     → IsNoOctet (take (2 + more) (a ∷ b ∷ c ∷ []))
 no_octet_of_several a b c {t} {v} {w} zero first second third few high =
     let u : ℕ = cond (nat_lt (digit_value a) 10) (digit_value a) 256 in
@@ -139,33 +145,37 @@ no_octet_of_several a b c {t} {v} {w} (suc zero) first second third few high =
     ])
 no_octet_of_several a b c (suc (suc more)) first second third few high = absurd (omega arith)
 
--- the bound of the octet before a dot that the tables give
-pub octet_fits : {t v f : ℕ} → t ≤ 2560 → v ≤ 256 → f ≤ 10 → (t + v) * f ≤ 28160
-octet_fits {t} {v} {f} first second factor = let k = mul-le-mul_left (t + v) factor in omega arith
-
-pub digits_before_dot : (a b c : ℕ) {t v f w : ℕ} (n : ℕ) → t ≡ first_value a → Value b v → Factor c f → Last c w → n ≡ (t + v) * f + w → n ≤ 255
+pub digits_before_dot : (a b c : ℕ) {t v f w : ℕ} (n : ℕ) → t ≡ first_value a → Value b v → Factor c f → Last c w
+    → n ≡ (t + v) * f + w → n ≤ 255
     → IsOctet (before_dot a b c) n
 digits_before_dot a b c {t} {v} {f} {w} n first second factor last is low = elim (third_cases c f w factor last) [
   | IsDot here one none ↦
       let n_is : n ≡ (t + v) * 1 + 0 = is ∙ ap (λ x. (t + v) * x + w) one ∙ ap (λ x. (t + v) * 1 + x) none in
-      let front : take 2 (a ∷ b ∷ c ∷ []) ≡ before_dot a b c = sym (ap (λ x. cond x (a ∷ b ∷ []) (a ∷ b ∷ c ∷ [])) here) in
-      subst (λ (s : List ℕ). IsOctet s n) front (several_digits a b c 0 n first second refl (omega arith) (omega (arith, n_is)) low)
+      let front : take 2 (a ∷ b ∷ c ∷ []) ≡ before_dot a b c =
+      sym (ap (λ x. cond x (a ∷ b ∷ []) (a ∷ b ∷ c ∷ [])) here) in
+      subst (λ (s : List ℕ). IsOctet s n) front
+      (several_digits a b c 0 n first second refl (omega arith) (omega (arith, n_is)) low)
   | NoDot here ten value ↦
       let n_is : n ≡ (t + v) * 10 + w = is ∙ ap (λ x. (t + v) * x + w) ten in
-      let front : take 3 (a ∷ b ∷ c ∷ []) ≡ before_dot a b c = sym (ap (λ x. cond x (a ∷ b ∷ []) (a ∷ b ∷ c ∷ [])) here) in
-      subst (λ (s : List ℕ). IsOctet s n) front (several_digits a b c 1 n first second value (omega arith) (omega (arith, n_is)) low)
+      let front : take 3 (a ∷ b ∷ c ∷ []) ≡ before_dot a b c =
+      sym (ap (λ x. cond x (a ∷ b ∷ []) (a ∷ b ∷ c ∷ [])) here) in
+      subst (λ (s : List ℕ). IsOctet s n) front
+      (several_digits a b c 1 n first second value (omega arith) (omega (arith, n_is)) low)
 ]
 
-pub no_octet_before_dot : (a b c : ℕ) {t v f w : ℕ} (n : ℕ) → t ≡ first_value a → Value b v → Factor c f → Last c w → n ≡ (t + v) * f + w → 255 < n
+pub no_octet_before_dot : (a b c : ℕ) {t v f w : ℕ} (n : ℕ) → t ≡ first_value a → Value b v → Factor c f → Last c w
+    → n ≡ (t + v) * f + w → 255 < n
     → IsNoOctet (before_dot a b c)
 no_octet_before_dot a b c {t} {v} {f} {w} n first second factor last is high = elim (third_cases c f w factor last) [
   | IsDot here one none ↦
       let n_is : n ≡ (t + v) * 1 + 0 = is ∙ ap (λ x. (t + v) * x + w) one ∙ ap (λ x. (t + v) * 1 + x) none in
-      let front : take 2 (a ∷ b ∷ c ∷ []) ≡ before_dot a b c = sym (ap (λ x. cond x (a ∷ b ∷ []) (a ∷ b ∷ c ∷ [])) here) in
+      let front : take 2 (a ∷ b ∷ c ∷ []) ≡ before_dot a b c =
+      sym (ap (λ x. cond x (a ∷ b ∷ []) (a ∷ b ∷ c ∷ [])) here) in
       subst IsNoOctet front (no_octet_of_several a b c 0 first second refl (omega arith) (omega (arith, n_is)))
   | NoDot here ten value ↦
       let n_is : n ≡ (t + v) * 10 + w = is ∙ ap (λ x. (t + v) * x + w) ten in
-      let front : take 3 (a ∷ b ∷ c ∷ []) ≡ before_dot a b c = sym (ap (λ x. cond x (a ∷ b ∷ []) (a ∷ b ∷ c ∷ [])) here) in
+      let front : take 3 (a ∷ b ∷ c ∷ []) ≡ before_dot a b c =
+      sym (ap (λ x. cond x (a ∷ b ∷ []) (a ∷ b ∷ c ∷ [])) here) in
       subst IsNoOctet front (no_octet_of_several a b c 1 first second value (omega arith) (omega (arith, n_is)))
 ]
 
@@ -186,7 +196,8 @@ more_cases byte more is = elim (cases_eq byte dot) [
   | inr none ↦ inr (none, is ∙ ap (λ b. cond b 0 1) (ne_eqb byte dot none))
 ]
 
-pub no_dot_after : (text : List ℕ) (more : ℕ) → get_or text 1 0 ≢ dot → more ≡ cond (get_or text 2 0 == dot) 0 1 → get_or text (2 + more) 0 ≢ dot
+pub no_dot_after : (text : List ℕ) (more : ℕ) → get_or text 1 0 ≢ dot → more ≡ cond (get_or text 2 0 == dot) 0 1
+    → get_or text (2 + more) 0 ≢ dot
     → HasNoOctetEnd text
 no_dot_after text more first is last i low high here = elim (more_cases (get_or text 2 0) more is) [
   | inl two ↦ let at : 2 ≡ 2 + more = omega (arith, two.1) in last (ap (λ k. get_or text k 0) (sym at) ∙ two.0)
@@ -199,7 +210,8 @@ no_dot_after text more first is last i low high here = elim (more_cases (get_or 
   ]
 ]
 
-pub dot_after : (text : List ℕ) (more : ℕ) → 4 ≤ length text → get_or text 1 0 ≢ dot → more ≡ cond (get_or text 2 0 == dot) 0 1
+pub dot_after : (text : List ℕ) (more : ℕ) → 4 ≤ length text → get_or text 1 0 ≢ dot
+    → more ≡ cond (get_or text 2 0 == dot) 0 1
     → get_or text (2 + more) 0 ≡ dot → IsOctetEnd text (2 + more)
 dot_after text more long first is here = elim (more_cases (get_or text 2 0) more is) [
   | inl two ↦ record {
@@ -207,7 +219,8 @@ dot_after text more long first is here = elim (more_cases (get_or text 2 0) more
     few = omega (arith, two.1);
     within = omega (arith, two.1);
     here = here;
-    first = λ i low below other. let one : i ≡ 1 = omega (arith, two.1) in first (ap (λ k. get_or text k 0) (sym one) ∙ other);
+    first = λ i low below other. let one : i ≡ 1 = omega (arith, two.1) in
+        first (ap (λ k. get_or text k 0) (sym one) ∙ other);
   }
   | inr three ↦ record {
     some = omega (arith, three.1);
@@ -242,13 +255,15 @@ record Front (text : List ℕ) (at more : ℕ) : Type 0 where
   first : get_or (drop at text) 1 0 ≢ dot
   is : more ≡ cond (get_or (drop at text) 2 0 == dot) 0 1
 
-front_at : (text : List ℕ) (at more : ℕ) → get_or text (at + 1) 0 ≢ dot → more ≡ cond (get_or text (at + 2) 0 == dot) 0 1 → Front text at more
+front_at : (text : List ℕ) (at more : ℕ) → get_or text (at + 1) 0 ≢ dot
+    → more ≡ cond (get_or text (at + 2) 0 == dot) 0 1 → Front text at more
 front_at text at more first is = record {
   first = λ here. first (sym (byte_at text at 1 (at + 1) refl) ∙ here);
   is = is ∙ ap (λ b. cond (b == dot) 0 1) (sym (byte_at text at 2 (at + 2) refl));
 }
 
-pub no_octet_at : (text : List ℕ) (at more : ℕ) → get_or text (at + 1) 0 ≢ dot → more ≡ cond (get_or text (at + 2) 0 == dot) 0 1
+pub no_octet_at : (text : List ℕ) (at more : ℕ) → get_or text (at + 1) 0 ≢ dot
+    → more ≡ cond (get_or text (at + 2) 0 == dot) 0 1
     → get_or text (at + 2 + more) 0 ≢ dot → NoOctetAndDot (drop at text)
 no_octet_at text at more first is last =
     let front = front_at text at more first is in
@@ -256,7 +271,8 @@ no_octet_at text at more first is last =
     last (sym (byte_at text at (2 + more) (at + 2 + more) (omega arith)) ∙ here)))
 
 -- the position of the dot
-dotted_at : (text : List ℕ) (at more : ℕ) → 4 ≤ length text - at → get_or text (at + 1) 0 ≢ dot → more ≡ cond (get_or text (at + 2) 0 == dot) 0 1
+dotted_at : (text : List ℕ) (at more : ℕ) → 4 ≤ length text - at → get_or text (at + 1) 0 ≢ dot
+    → more ≡ cond (get_or text (at + 2) 0 == dot) 0 1
     → get_or text (at + 2 + more) 0 ≡ dot
     → IsOctetEnd (drop at text) (2 + more)
     × (before_dot (get_or text at 0) (get_or text (at + 1) 0) (get_or text (at + 2) 0) ≡ take (2 + more) (drop at text))
@@ -264,34 +280,45 @@ dotted_at text at more long first is here =
     let front = front_at text at more first is in
     let enough : 4 ≤ length (drop at text) = omega (arith, length-drop at text) in
     let zeroth : get_or (drop at text) 0 0 ≡ get_or text at 0 = byte_at text at 0 at (omega arith) in (
-      dot_after (drop at text) more enough front.first front.is (byte_at text at (2 + more) (at + 2 + more) (omega arith) ∙ here),
+      dot_after (drop at text) more enough front.first front.is
+          (byte_at text at (2 + more) (at + 2 + more) (omega arith) ∙ here),
       sym (ap (λ b. before_dot b (get_or text (at + 1) 0) (get_or text (at + 2) 0)) zeroth)
-          ∙ sym (ap (λ b. before_dot (get_or (drop at text) 0 0) b (get_or text (at + 2) 0)) (byte_at text at 1 (at + 1) refl))
-          ∙ sym (ap (λ b. before_dot (get_or (drop at text) 0 0) (get_or (drop at text) 1 0) b) (byte_at text at 2 (at + 2) refl))
+          ∙ sym (ap (λ b. before_dot (get_or (drop at text) 0 0) b (get_or text (at + 2) 0))
+          (byte_at text at 1 (at + 1) refl))
+          ∙ sym (ap (λ b. before_dot (get_or (drop at text) 0 0) (get_or (drop at text) 1 0) b)
+          (byte_at text at 2 (at + 2) refl))
           ∙ front_of (drop at text) enough more front.is,
     )
 
-pub no_octet_before_at : (text : List ℕ) (at more : ℕ) → 4 ≤ length text - at → get_or text (at + 1) 0 ≢ dot → more ≡ cond (get_or text (at + 2) 0 == dot) 0 1
-    → get_or text (at + 2 + more) 0 ≡ dot → IsNoOctet (before_dot (get_or text at 0) (get_or text (at + 1) 0) (get_or text (at + 2) 0))
+pub no_octet_before_at : (text : List ℕ) (at more : ℕ) → 4 ≤ length text - at → get_or text (at + 1) 0 ≢ dot
+    → more ≡ cond (get_or text (at + 2) 0 == dot) 0 1
+    → get_or text (at + 2 + more) 0 ≡ dot
+    → IsNoOctet (before_dot (get_or text at 0) (get_or text (at + 1) 0) (get_or text (at + 2) 0))
     → NoOctetAndDot (drop at text)
 no_octet_before_at text at more long first is here none =
     let k = dotted_at text at more long first is here in
     no_octet_before (drop at text) (2 + more) k.0 (subst IsNoOctet k.1 none)
 
 -- the octet before an end, and the text after the dot
-pub behind_end : (text : List ℕ) (at end n next : ℕ) → IsOctetEnd (drop at text) end → at + (end + 1) ≡ next → IsOctet (take end (drop at text)) n
+pub behind_end : (text : List ℕ) (at end n next : ℕ) → IsOctetEnd (drop at text) end → at + (end + 1) ≡ next
+    → IsOctet (take end (drop at text)) n
     → BeginsWithOctet (drop at text) n (dot ∷ drop next text)
 behind_end text at end n next found is octet =
-    subst (λ (rest : List ℕ). BeginsWithOctet (drop at text) n (dot ∷ rest)) (drop-drop (end + 1) at text ∙ ap (λ k. drop k text) is)
+    subst (λ (rest : List ℕ). BeginsWithOctet (drop at text) n (dot ∷ rest))
+    (drop-drop (end + 1) at text ∙ ap (λ k. drop k text) is)
     (octet_before (drop at text) end n found octet)
 
-pub octet_before_at : (text : List ℕ) (at more n : ℕ) → 4 ≤ length text - at → get_or text (at + 1) 0 ≢ dot → more ≡ cond (get_or text (at + 2) 0 == dot) 0 1
-    → get_or text (at + 2 + more) 0 ≡ dot → IsOctet (before_dot (get_or text at 0) (get_or text (at + 1) 0) (get_or text (at + 2) 0)) n
+pub octet_before_at : (text : List ℕ) (at more n : ℕ) → 4 ≤ length text - at → get_or text (at + 1) 0 ≢ dot
+    → more ≡ cond (get_or text (at + 2) 0 == dot) 0 1
+    → get_or text (at + 2 + more) 0 ≡ dot
+    → IsOctet (before_dot (get_or text at 0) (get_or text (at + 1) 0) (get_or text (at + 2) 0)) n
     → BeginsWithOctet (drop at text) n (dot ∷ drop (at + 2 + more + 1) text)
 octet_before_at text at more n long first is here octet =
     let k = dotted_at text at more long first is here in
-    behind_end text at (2 + more) n (at + 2 + more + 1) k.0 (omega arith) (subst (λ (s : List ℕ). IsOctet s n) k.1 octet)
+    behind_end text at (2 + more) n (at + 2 + more + 1) k.0 (omega arith)
+    (subst (λ (s : List ℕ). IsOctet s n) k.1 octet)
 
 -- the position after the dot is within the text
-pub behind_within : (text : List ℕ) (at end : ℕ) → at ≤ length text → IsOctetEnd (drop at text) end → at + end + 1 ≤ length text
+pub behind_within : (text : List ℕ) (at end : ℕ) → at ≤ length text → IsOctetEnd (drop at text) end
+    → at + end + 1 ≤ length text
 behind_within text at end within found = omega (arith, found.within, length-drop at text)

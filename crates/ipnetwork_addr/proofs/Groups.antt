@@ -1,10 +1,5 @@
 -- The group that a text begins with.
-use Rattle.std.proofs.Common.{◌≡◌, ℕ, ◌+◌, ◌*◌, ◌^◌, ◌<◌, ◌≤◌, List, [], ◌∷◌, ◌++◌, length, get_or, drop, refl, sym, ap, ◌∙◌, subst, arith, lit≤}
-use Rattle.std.proofs.Math.Nat.{pow-le-pow_right}
-use Rattle.std.proofs.lemmas.Int.Digits.{digits_value-lt}
-use Rattle.std.specs.Char.{digit_value}
-use Rattle.std.specs.Str.Parse.{AllDigits, digits_value}
-use Rattle.ipnetwork_addr.specs.Private.GroupFront.{NoHex, BeginsWithHex, BeginsWithGroup, NoGroup}
+use Rattle.ipnetwork_addr.proofs.Words.{◌≡◌, ℕ, ◌+◌, ◌*◌, ◌^◌, ◌<◌, ◌≤◌, List, [], ◌∷◌, ◌++◌, length, get_or, drop, refl, sym, ap, ◌∙◌, subst, arith, lit≤, pow-le-pow_right, digits_value-lt, digit_value, AllDigits, digits_value, NoHex, BeginsWithHex, BeginsWithGroup, NoGroup}
 
 below : {text : List ℕ} {d : ℕ} {r : List ℕ} → (h : BeginsWithHex text d r) → digit_value h.byte < 16
 below h = subst (λ (v : ℕ). v < 16) (sym h.value) h.below_sixteen
@@ -23,7 +18,8 @@ one_hex first stops = record {
   stops = stops;
 }
 
-pub two_hexes : {text r rest : List ℕ} {a b : ℕ} → BeginsWithHex text a r → BeginsWithHex r b rest → NoHex rest → BeginsWithGroup text (a * 16 + b) rest
+pub two_hexes : {text r rest : List ℕ} {a b : ℕ} → BeginsWithHex text a r → BeginsWithHex r b rest → NoHex rest
+    → BeginsWithGroup text (a * 16 + b) rest
 two_hexes first second stops = record {
   front = first.byte ∷ second.byte ∷ [];
   named = record {
@@ -35,7 +31,8 @@ two_hexes first second stops = record {
   stops = stops;
 }
 
-pub three_hexes : {text r s rest : List ℕ} {a b c : ℕ} → BeginsWithHex text a r → BeginsWithHex r b s → BeginsWithHex s c rest → NoHex rest → BeginsWithGroup text ((a * 16 + b) * 16 + c) rest
+pub three_hexes : {text r s rest : List ℕ} {a b c : ℕ} → BeginsWithHex text a r → BeginsWithHex r b s
+    → BeginsWithHex s c rest → NoHex rest → BeginsWithGroup text ((a * 16 + b) * 16 + c) rest
 three_hexes first second third stops = record {
   front = first.byte ∷ second.byte ∷ third.byte ∷ [];
   named = record {
@@ -47,7 +44,8 @@ three_hexes first second third stops = record {
   stops = stops;
 }
 
-pub four_hexes : {text r s t rest : List ℕ} {a b c d : ℕ} → BeginsWithHex text a r → BeginsWithHex r b s → BeginsWithHex s c t → BeginsWithHex t d rest → NoHex rest → BeginsWithGroup text (((a * 16 + b) * 16 + c) * 16 + d) rest
+pub four_hexes : {text r s t rest : List ℕ} {a b c d : ℕ} → BeginsWithHex text a r → BeginsWithHex r b s → BeginsWithHex
+    s c t → BeginsWithHex t d rest → NoHex rest → BeginsWithGroup text (((a * 16 + b) * 16 + c) * 16 + d) rest
 four_hexes first second third fourth stops = record {
   front = first.byte ∷ second.byte ∷ third.byte ∷ fourth.byte ∷ [];
   named = record {
@@ -55,7 +53,8 @@ four_hexes first second third fourth stops = record {
     short = lit≤ tt;
     value = rw (first.value, second.value, third.value, fourth.value) (omega arith);
   };
-  split = first.split ∙ ap (λ more. first.byte ∷ more) (second.split ∙ ap (λ more. second.byte ∷ more) (third.split ∙ ap (λ more. third.byte ∷ more) fourth.split));
+  split = first.split ∙ ap (λ more. first.byte ∷ more)
+      (second.split ∙ ap (λ more. second.byte ∷ more) (third.split ∙ ap (λ more. third.byte ∷ more) fourth.split));
   stops = stops;
 }
 
@@ -72,8 +71,10 @@ goes_on {text} h stops =
 behind : {text : List ℕ} {d : ℕ} {r : List ℕ} → BeginsWithHex text d r → drop 1 text ≡ r
 behind h = ap (drop 1) h.split
 
-pub no_group_of_five : {text r s t u v : List ℕ} {a b c d e : ℕ} → BeginsWithHex text a r → BeginsWithHex r b s → BeginsWithHex s c t → BeginsWithHex t d u → BeginsWithHex u e v → NoGroup text
-no_group_of_five {text} {r} {s} {t} {u} first second third fourth fifth group rest h = go h.front h.named.digits.0 h.named.short h.split
+pub no_group_of_five : {text r s t u v : List ℕ} {a b c d e : ℕ} → BeginsWithHex text a r → BeginsWithHex r b s
+    → BeginsWithHex s c t → BeginsWithHex t d u → BeginsWithHex u e v → NoGroup text
+no_group_of_five {text} {r} {s} {t} {u} first second third fourth fifth group rest h =
+    go h.front h.named.digits.0 h.named.short h.split
   where
     is_r : drop 1 text ≡ r
     is_r = behind first
@@ -85,7 +86,8 @@ no_group_of_five {text} {r} {s} {t} {u} first second third fourth fifth group re
     is_t = ap (λ t. drop 3 t) first.split ∙ ap (λ t. drop 2 t) second.split ∙ behind third
 
     is_u : drop 4 text ≡ u
-    is_u = ap (λ t. drop 4 t) first.split ∙ ap (λ t. drop 3 t) second.split ∙ ap (λ t. drop 2 t) third.split ∙ behind fourth
+    is_u = ap (λ t. drop 4 t) first.split ∙ ap (λ t. drop 3 t) second.split ∙ ap (λ t. drop 2 t) third.split
+        ∙ behind fourth
 
     go : (front : List ℕ) → 0 < length front → length front ≤ 4 → text ≡ front ++ rest → ⊥
     go [] some short split = omega (arith, some)
@@ -97,7 +99,8 @@ no_group_of_five {text} {r} {s} {t} {u} first second third fourth fifth group re
 
 -- ---- a text begins with at most one group
 
-pub same_digits : (a b r s : List ℕ) → AllDigits 16 a → AllDigits 16 b → NoHex r → NoHex s → a ++ r ≡ b ++ s → (a ≡ b) × (r ≡ s)
+pub same_digits : (a b r s : List ℕ) → AllDigits 16 a → AllDigits 16 b → NoHex r → NoHex s → a ++ r ≡ b ++ s
+    → (a ≡ b) × (r ≡ s)
 same_digits [] [] r s h k f g e = (refl, e)
 same_digits [] (y ∷ b) r s h k f g e =
     let large : 16 ≤ digit_value y = subst (λ (t : List ℕ). NoHex t) e f in
@@ -110,9 +113,11 @@ same_digits (x ∷ a) (y ∷ b) r s h k f g e =
     let more = same_digits a b r s h.1 k.1 f g (ap (drop 1) e) in
     (ap (λ z. z ∷ a) head ∙ ap (λ t. y ∷ t) more.0, more.1)
 
-pub group_unique : (text : List ℕ) (g h : ℕ) (r s : List ℕ) → BeginsWithGroup text g r → BeginsWithGroup text h s → (g ≡ h) × (r ≡ s)
+pub group_unique : (text : List ℕ) (g h : ℕ) (r s : List ℕ) → BeginsWithGroup text g r → BeginsWithGroup text h s
+    → (g ≡ h) × (r ≡ s)
 group_unique text g h r s p q =
-    let same = same_digits p.front q.front r s p.named.digits.1 q.named.digits.1 p.stops q.stops (sym p.split ∙ q.split) in
+    let same = same_digits p.front q.front r s p.named.digits.1 q.named.digits.1 p.stops q.stops
+    (sym p.split ∙ q.split) in
     (p.named.value ∙ ap (digits_value 16) same.0 ∙ sym q.named.value, same.1)
 
 pub group_fits : (text : List ℕ) (g : ℕ) (r : List ℕ) → BeginsWithGroup text g r → g < 2 ^ 16

@@ -1,13 +1,5 @@
 -- An IPv4 text, octet by octet from the front.
-use Rattle.std.proofs.Common.{◌≡◌, ◌≢◌, ℕ, ◌^◌, ◌<◌, List, [], ◌∷◌, ◌++◌, length, map, decimal, refl, sym, ap, ◌∙◌, arith, lit≤, inl, append-nil, Bool, true, false, ◌==◌}
-use Rattle.std.proofs.lemmas.Bool.{eqb-true, eqb-false}
-use Rattle.std.proofs.lemmas.List.{nil_from_length}
-use Rattle.std.specs.List.{join_with_byte, AllZip}
-use Rattle.std.specs.Int.Digits.{number_from_digits}
-use Rattle.ipnetwork_addr.specs.Texts.{dot}
-use Rattle.ipnetwork_addr.specs.Digits.{octets_of}
-use Rattle.ipnetwork_addr.specs.Ipv4Text.{IsOctet, NamesV4, canonical_v4}
-use Rattle.ipnetwork_addr.specs.Private.OctetFront.{NoDigit, BeginsWithOctet}
+use Rattle.ipnetwork_addr.proofs.Words.{◌≡◌, ◌≢◌, ℕ, ◌^◌, ◌<◌, List, [], ◌∷◌, ◌++◌, length, map, decimal, refl, sym, ap, ◌∙◌, arith, lit≤, inl, append-nil, Bool, true, false, ◌==◌, eqb-true, eqb-false, nil_from_length, join_with_byte, AllZip, number_from_digits, dot, octets_of, IsOctet, NamesV4, canonical_v4, NoDigit, BeginsWithOctet}
 use Rattle.ipnetwork_addr.proofs.Octets.{BeginsWithDottedOctet, octet_unique, dotted_octet_unique}
 
 -- four octets, one after the other, and nothing after them
@@ -41,7 +33,9 @@ at_dot rest = inl (lit≤ tt)
 at_end : NoDigit []
 at_end = inl (lit≤ tt)
 
-reading_of_parts : (text : List ℕ) (parts : List (List ℕ)) (octets : List ℕ) (address : ℕ) → text ≡ join_with_byte dot parts → AllZip IsOctet parts octets → length octets ≡ 4 → address ≡ number_from_digits 256 octets → Reading text address
+reading_of_parts : (text : List ℕ) (parts : List (List ℕ)) (octets : List ℕ) (address : ℕ)
+    → text ≡ join_with_byte dot parts → AllZip IsOctet parts octets → length octets ≡ 4
+    → address ≡ number_from_digits 256 octets → Reading text address
 reading_of_parts text (p ∷ q ∷ r ∷ s ∷ []) (a ∷ b ∷ c ∷ d ∷ []) address spelled named four value = record {
   a = a;
   b = b;
@@ -52,7 +46,13 @@ reading_of_parts text (p ∷ q ∷ r ∷ s ∷ []) (a ∷ b ∷ c ∷ d ∷ []) 
     after_b = dot ∷ (r ++ dot ∷ s);
     after_c = dot ∷ s;
     first = rw spelled (begins p a (dot ∷ (q ++ dot ∷ (r ++ dot ∷ s))) named.0 (at_dot (q ++ dot ∷ (r ++ dot ∷ s))));
-    second = record { after_dot = q ++ dot ∷ (r ++ dot ∷ s); dotted = refl; begins = begins q b (dot ∷ (r ++ dot ∷ s)) named.1.0 (at_dot (r ++ dot ∷ s)) };
+    second =
+        record {
+          after_dot = q ++ dot ∷ (r ++ dot ∷ s);
+          dotted = refl;
+          begins =
+              begins q b (dot ∷ (r ++ dot ∷ s)) named.1.0 (at_dot (r ++ dot ∷ s));
+        };
     third = record { after_dot = r ++ dot ∷ s; dotted = refl; begins = begins r c (dot ∷ s) named.1.1.0 (at_dot s) };
     fourth = record { after_dot = s; dotted = refl; begins = rw append-nil at (begins s d [] named.1.1.1.0 at_end) };
   };
@@ -67,10 +67,12 @@ reading_of_parts text [] (a ∷ b ∷ c ∷ d ∷ []) address spelled named four
 reading_of_parts text (p ∷ []) (a ∷ b ∷ c ∷ d ∷ []) address spelled named four value = absurd named.1
 reading_of_parts text (p ∷ q ∷ []) (a ∷ b ∷ c ∷ d ∷ []) address spelled named four value = absurd named.1.1
 reading_of_parts text (p ∷ q ∷ r ∷ []) (a ∷ b ∷ c ∷ d ∷ []) address spelled named four value = absurd named.1.1.1
-reading_of_parts text (p ∷ q ∷ r ∷ s ∷ t ∷ more) (a ∷ b ∷ c ∷ d ∷ []) address spelled named four value = absurd named.1.1.1.1
+reading_of_parts text (p ∷ q ∷ r ∷ s ∷ t ∷ more) (a ∷ b ∷ c ∷ d ∷ []) address spelled named four value =
+    absurd named.1.1.1.1
 
 pub reading_of : (text : List ℕ) (address : ℕ) → NamesV4 text address → Reading text address
-reading_of text address h = reading_of_parts text h.joined.parts h.octets address h.joined.spelled h.joined.named h.four h.value
+reading_of text address h = reading_of_parts text h.joined.parts h.octets address h.joined.spelled h.joined.named
+    h.four h.value
 
 -- ---- the results of the reader
 
@@ -81,7 +83,8 @@ is_nil b text e f = nil_from_length text (eqb-true (length text) 0 (sym e ∙ f)
 pub not_nil : (b : Bool) (text : List ℕ) → b ≡ (length text == 0) → b ≡ false → text ≢ []
 not_nil b text e f empty = eqb-false (length text) 0 (sym e ∙ f) (ap length empty)
 
-pub names_four : {text : List ℕ} {a b c d : ℕ} {r s t u : List ℕ} → BeginsWithOctet text a r → BeginsWithDottedOctet r b s → BeginsWithDottedOctet s c t → BeginsWithDottedOctet t d u → u ≡ [] → NamesV4 text (number_of a b c d)
+pub names_four : {text : List ℕ} {a b c d : ℕ} {r s t u : List ℕ} → BeginsWithOctet text a r → BeginsWithDottedOctet r b
+    s → BeginsWithDottedOctet s c t → BeginsWithDottedOctet t d u → u ≡ [] → NamesV4 text (number_of a b c d)
 names_four {text} {a} {b} {c} {d} {r} {s} {t} {u} first second third fourth empty = record {
   octets = a ∷ b ∷ c ∷ d ∷ [];
   joined = record {
@@ -94,21 +97,27 @@ names_four {text} {a} {b} {c} {d} {r} {s} {t} {u} first second third fourth empt
         ∙ ap (λ z. dot ∷ z) (third.begins.split
         ∙ ap (λ z. decimal c ++ z) (fourth.dotted
         ∙ ap (λ z. dot ∷ z) (fourth.begins.split ∙ ap (λ z. decimal d ++ z) empty ∙ append-nil (decimal d)))))));
-    named = ((first.bound, refl), ((second.begins.bound, refl), ((third.begins.bound, refl), ((fourth.begins.bound, refl), tt))));
+    named = (
+      (first.bound, refl),
+      ((second.begins.bound, refl), ((third.begins.bound, refl), ((fourth.begins.bound, refl), tt))),
+    );
   };
   four = refl;
   value = refl;
 }
 
 -- after the first octets are read, those of any address that the text names are the same
-pub same_after_a : {text : List ℕ} {a : ℕ} {r : List ℕ} {b' c' d' a' : ℕ} → BeginsWithOctet text a r → (k : Chain text a' b' c' d') → k.after_a ≡ r
+pub same_after_a : {text : List ℕ} {a : ℕ} {r : List ℕ} {b' c' d' a' : ℕ} → BeginsWithOctet text a r
+    → (k : Chain text a' b' c' d') → k.after_a ≡ r
 same_after_a {text} {a} {r} {b'} {c'} {d'} {a'} first k = (octet_unique text a' a k.after_a r k.first first).1
 
-pub same_after_b : {text : List ℕ} {a b : ℕ} {r s : List ℕ} {b' c' d' a' : ℕ} → BeginsWithOctet text a r → BeginsWithDottedOctet r b s → (k : Chain text a' b' c' d') → k.after_b ≡ s
+pub same_after_b : {text : List ℕ} {a b : ℕ} {r s : List ℕ} {b' c' d' a' : ℕ} → BeginsWithOctet text a r
+    → BeginsWithDottedOctet r b s → (k : Chain text a' b' c' d') → k.after_b ≡ s
 same_after_b {text} {a} {b} {r} {s} {b'} {c'} {d'} {a'} first second k =
     (dotted_octet_unique r b' b k.after_b s (rw (same_after_a first k) at k.second) second).1
 
-pub same_after_c : {text : List ℕ} {a b c : ℕ} {r s t : List ℕ} {b' c' d' a' : ℕ} → BeginsWithOctet text a r → BeginsWithDottedOctet r b s → BeginsWithDottedOctet s c t → (k : Chain text a' b' c' d') → k.after_c ≡ t
+pub same_after_c : {text : List ℕ} {a b c : ℕ} {r s t : List ℕ} {b' c' d' a' : ℕ} → BeginsWithOctet text a r
+    → BeginsWithDottedOctet r b s → BeginsWithDottedOctet s c t → (k : Chain text a' b' c' d') → k.after_c ≡ t
 same_after_c {text} {a} {b} {c} {r} {s} {t} {b'} {c'} {d'} {a'} first second third k =
     (dotted_octet_unique s c' c k.after_c t (rw (same_after_b first second k) at k.third) third).1
 

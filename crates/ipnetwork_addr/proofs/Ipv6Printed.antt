@@ -1,17 +1,8 @@
 -- The canonical text of an IPv6 address names it and is unique.
-use Rattle.std.proofs.Common.{◌≡◌, ◌↔◌, subst, ℕ, suc, zero, ◌+◌, ◌%◌, ◌^◌, ◌<◌, ◌≤◌, false, List, [], ◌∷◌, ◌++◌, length, map, take, drop, replicate, refl, sym, ap, ◌∙◌, inl, inr, arith, lit≤, take-add, take-append-drop, length-take-le, length-drop}
-use Rattle.std.proofs.Common.{true≢false, eq-eqb, ◌/◌}
-use Rattle.std.proofs.lemmas.Bool.{cond_both, leb-true, leb-false, eqb-true}
-use Rattle.ipnetwork_addr.specs.Texts.{colon}
+use Rattle.ipnetwork_addr.proofs.Words.{◌≡◌, ◌↔◌, subst, ℕ, suc, zero, ◌+◌, ◌%◌, ◌^◌, ◌<◌, ◌≤◌, false, List, [], ◌∷◌, ◌++◌, length, map, take, drop, replicate, refl, sym, ap, ◌∙◌, inl, inr, arith, lit≤, take-add, take-append-drop, length-take-le, length-drop, true≢false, ◌/◌, cond_both, leb-true, leb-false, eqb-true, colon, AllZip, number_from_digits, AllBelowBase, digits_is_IsNumeral, segments_of, canonical_v4, IsGroup, IsPlain, NamesV6, two_groups, hex, hex_groups, IsMapped, IsZeroRun, IsGap, IsCanonicalV6, Mapped, Whole, gap_among, canonical_v6}
+use Rattle.std.proofs.Common.{eq-eqb}
 use Rattle.ipnetwork_addr.proofs.ZeroRuns.{gap_found, no_gap, run_is_zeros}
-use Rattle.std.specs.List.{AllZip}
-use Rattle.std.specs.Int.Digits.{number_from_digits, AllBelowBase}
-use Rattle.std.proofs.lemmas.Fmt.{digits_is_IsNumeral}
-use Rattle.ipnetwork_addr.specs.Digits.{segments_of}
-use Rattle.ipnetwork_addr.specs.Ipv4Text.{canonical_v4}
-use Rattle.ipnetwork_addr.specs.Ipv6Text.{IsGroup, IsPlain, NamesV6, two_groups}
-use Rattle.ipnetwork_addr.specs.Ipv6Canonical.{hex, hex_groups, IsMapped, IsZeroRun, IsGap, IsCanonicalV6, Mapped, Gap, Whole}
-use Rattle.ipnetwork_addr.specs.Computed.Ipv6Canonical.{gap_among, canonical_v6}
+use Rattle.ipnetwork_addr.specs.Ipv6Canonical.{Gap}
 use Rattle.ipnetwork_addr.proofs.Ipv4Lemmas.{canonical_v4_names}
 use Rattle.ipnetwork_addr.proofs.Ipv6Names.{v6_unique}
 use Rattle.ipnetwork_addr.proofs.Hexes.{length-hex-le}
@@ -40,17 +31,23 @@ fit_drop (suc n) [] h = h
 fit_drop (suc n) (g ∷ groups) h = fit_drop n groups h.1
 
 pub segments_fit : (address : ℕ) → AllBelowBase (2 ^ 16) (segments_of address)
-segments_fit address =
-    (omega arith, (omega arith, (omega arith, (omega arith, (omega arith, (omega arith, (omega arith, (omega arith, tt))))))))
+segments_fit address = (
+  omega arith,
+  (omega arith, (omega arith, (omega arith, (omega arith, (omega arith, (omega arith, (omega arith, tt))))))),
+)
 
 pub number-segments_of : (address : ℕ) → address < 2 ^ 128 → address ≡ number_from_digits (2 ^ 16) (segments_of address)
 number-segments_of address fits = omega arith
 
 -- groups with a run of zeros left out and put back
-put_back : (groups : List ℕ) (i n : ℕ) → IsZeroRun groups i n → groups ≡ take i groups ++ replicate n 0 ++ drop (i + n) groups
-put_back groups i n run = rw (← run_is_zeros groups i n run, ← take-add i n groups) (sym (take-append-drop (i + n) groups))
+put_back : (groups : List ℕ) (i n : ℕ) → IsZeroRun groups i n → groups ≡ take i groups ++ replicate n 0
+    ++ drop (i + n) groups
+put_back groups i n run = rw (← run_is_zeros groups i n run, ← take-add i n groups)
+    (sym (take-append-drop (i + n) groups))
 
-gap_named : (address : ℕ) (groups text : List ℕ) (i n : ℕ) → length groups ≡ 8 → AllBelowBase (2 ^ 16) groups → address ≡ number_from_digits (2 ^ 16) groups → IsGap groups i n → text ≡ hex_groups (take i groups) ++ (colon ∷ colon ∷ []) ++ hex_groups (drop (i + n) groups) → NamesV6 text address
+gap_named : (address : ℕ) (groups text : List ℕ) (i n : ℕ) → length groups ≡ 8 → AllBelowBase (2 ^ 16) groups
+    → address ≡ number_from_digits (2 ^ 16) groups → IsGap groups i n → text ≡ hex_groups (take i groups)
+    ++ (colon ∷ colon ∷ []) ++ hex_groups (drop (i + n) groups) → NamesV6 text address
 gap_named address groups text i n eight fit value gap spelled =
     let within : i + n ≤ 8 = omega (arith, gap.zeros.there, eight) in
     let front = length-take-le i groups (omega arith) in
@@ -70,10 +67,12 @@ gap_named address groups text i n eight fit value gap spelled =
     })
 
 -- the number of an IPv4-mapped address
-mapped_number : (address : ℕ) → IsMapped address → address ≡ number_from_digits (2 ^ 16) (0 ∷ 0 ∷ 0 ∷ 0 ∷ 0 ∷ 0xffff ∷ two_groups (address % 2 ^ 32))
+mapped_number : (address : ℕ) → IsMapped address
+    → address ≡ number_from_digits (2 ^ 16) (0 ∷ 0 ∷ 0 ∷ 0 ∷ 0 ∷ 0xffff ∷ two_groups (address % 2 ^ 32))
 mapped_number address mapped = omega (arith, mapped)
 
-mapped_named : (address : ℕ) (text : List ℕ) → IsMapped address → text ≡ (colon ∷ colon ∷ 102 ∷ 102 ∷ 102 ∷ 102 ∷ colon ∷ []) ++ canonical_v4 (address % 2 ^ 32) → NamesV6 text address
+mapped_named : (address : ℕ) (text : List ℕ) → IsMapped address → text ≡ (colon ∷ colon ∷ 102 ∷ 102 ∷ 102 ∷ 102 ∷ colon
+    ∷ []) ++ canonical_v4 (address % 2 ^ 32) → NamesV6 text address
 mapped_named address text mapped spelled = inr (record {
   before = [];
   behind = 102 ∷ 102 ∷ 102 ∷ 102 ∷ colon ∷ canonical_v4 (address % 2 ^ 32);
@@ -88,7 +87,10 @@ mapped_named address text mapped spelled = inr (record {
     last = canonical_v4 (address % 2 ^ 32);
     address = address % 2 ^ 32;
     spelled = refl;
-    named = (record { digits = (lit≤ tt, (lit≤ tt, (lit≤ tt, (lit≤ tt, (lit≤ tt, tt))))); short = lit≤ tt; value = refl }, tt);
+    named = (
+      record { digits = (lit≤ tt, (lit≤ tt, (lit≤ tt, (lit≤ tt, (lit≤ tt, tt))))); short = lit≤ tt; value = refl },
+      tt,
+    );
     dotted = canonical_v4_names (address % 2 ^ 32) (omega arith);
     value = refl;
   });
@@ -97,10 +99,12 @@ mapped_named address text mapped spelled = inr (record {
   value = mapped_number address mapped;
 })
 
-pub canonical_v6_names : (text : List ℕ) (address : ℕ) → address < 2 ^ 128 → IsCanonicalV6 text address → NamesV6 text address
+pub canonical_v6_names : (text : List ℕ) (address : ℕ) → address < 2 ^ 128 → IsCanonicalV6 text address
+    → NamesV6 text address
 canonical_v6_names text address fits (Mapped mapped spelled) = mapped_named address text mapped spelled
 canonical_v6_names text address fits (Gap other i n gap spelled) =
-    gap_named address (segments_of address) text i n refl (segments_fit address) (number-segments_of address fits) gap spelled
+    gap_named address (segments_of address) text i n refl (segments_fit address)
+    (number-segments_of address fits) gap spelled
 canonical_v6_names text address fits (Whole other none spelled) = inl (record {
   groups = segments_of address;
   ended = inl (rw spelled (hex_groups_are_plain (segments_of address) (segments_fit address)));
@@ -118,7 +122,8 @@ same_gap groups i n j m g h =
     let right : j ≤ i = h.leftmost i (rw (← same) g.zeros) in
     (omega arith, same)
 
-pub canonical_v6_unique : (address : ℕ) (text other : List ℕ) → IsCanonicalV6 text address → IsCanonicalV6 other address → text ≡ other
+pub canonical_v6_unique : (address : ℕ) (text other : List ℕ) → IsCanonicalV6 text address → IsCanonicalV6 other address
+    → text ≡ other
 canonical_v6_unique address text other (Mapped mapped e) (Mapped mapped' e') = e ∙ sym e'
 canonical_v6_unique address text other (Mapped mapped e) (Gap not i n gap e') = absurd (not mapped)
 canonical_v6_unique address text other (Mapped mapped e) (Whole not none e') = absurd (not mapped)
@@ -158,5 +163,6 @@ canonical_v6_one_to_one a b fits_a fits_b = (
   λ e. ap canonical_v6 e,
   λ e.
       let named = canonical_v6_names (canonical_v6 b) b fits_b (canonical_v6_is b) in
-      v6_unique (canonical_v6 a) a b (canonical_v6_names (canonical_v6 a) a fits_a (canonical_v6_is a)) (subst (λ (t : List ℕ). NamesV6 t b) (sym e) named),
+      v6_unique (canonical_v6 a) a b (canonical_v6_names (canonical_v6 a) a fits_a (canonical_v6_is a))
+      (subst (λ (t : List ℕ). NamesV6 t b) (sym e) named),
 )

@@ -1,24 +1,8 @@
 -- What follows from the laws of texts, and would not follow from weaker ones. The addresses are from RFC 5737, section
 -- 3, and from RFC 5952.
-use Rattle.std.proofs.Common.{◌≡◌, ℕ, ◌^◌, ◌-◌, ◌+◌, ◌*◌, ◌<◌, true, false, List, [], ◌∷◌, ◌++◌, Some, None, Option, Result, refl, ap, sym, arith, lit<, true≢false}
-use Rattle.std.specs.Prelude.{◌↔◌, codes, is_err, Ok, Err}
-use Rattle.std.specs.Fmt.{digits}
-use Rattle.std.specs.List.{AllByRecursion}
-use Rattle.ipnetwork_addr.specs.declared.error.AddrParseError.{AddrParseError}
+use Rattle.ipnetwork_addr.proofs.Words.{◌≡◌, ℕ, ◌^◌, ◌-◌, ◌+◌, ◌*◌, ◌<◌, true, false, List, [], ◌∷◌, ◌++◌, Some, None, Option, Result, refl, ap, sym, arith, lit<, true≢false, codes, is_err, Ok, Err, digits, AllByRecursion, AddrParseError, IpAddr, V4, V6, NamesIp, FitsIp, canonical_ip, unmapped, ip_of, v4_of, canonical_v6, v6_of, gap_below, answer_from, IsOctet, IsPlainOctet, NamesV4, canonical_v4, IsCanonicalV6, NamesV6, Reads, IsAddressByte, colon_first}
+use Rattle.std.specs.Prelude.{◌↔◌}
 use Rattle.ipnetwork_addr.specs.declared.error.AddrParseError.TheVariants as error
-use Rattle.ipnetwork_addr.specs.declared.ip.IpAddr.{IpAddr}
-use Rattle.ipnetwork_addr.specs.declared.ip.IpAddr.TheVariants.{V4, V6}
-use Rattle.ipnetwork_addr.specs.Either.{NamesIp, FitsIp, canonical_ip, unmapped}
-use Rattle.ipnetwork_addr.specs.Computed.Either.{ip_of}
-use Rattle.ipnetwork_addr.specs.Computed.Ipv4Text.{v4_of}
-use Rattle.ipnetwork_addr.specs.Computed.Ipv6Canonical.{canonical_v6}
-use Rattle.ipnetwork_addr.specs.Computed.Ipv6Text.{v6_of, gap_below}
-use Rattle.ipnetwork_addr.specs.Computed.Reading.{answer_from}
-use Rattle.ipnetwork_addr.specs.Ipv4Text.{IsOctet, IsPlainOctet, NamesV4, canonical_v4}
-use Rattle.ipnetwork_addr.specs.Ipv6Canonical.{IsCanonicalV6}
-use Rattle.ipnetwork_addr.specs.Ipv6Text.{NamesV6}
-use Rattle.ipnetwork_addr.specs.Reading.{Reads}
-use Rattle.ipnetwork_addr.specs.Texts.{IsAddressByte, colon_first}
 use Rattle.ipnetwork_addr.proofs.Examples.{none_before_the_dot}
 
 abbrev number : Option ℕ → ℕ

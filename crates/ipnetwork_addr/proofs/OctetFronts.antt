@@ -1,15 +1,5 @@
 -- Octets that are whole texts, and octets before a dot.
-use Rattle.std.proofs.Common.{◌≡◌, ◌≢◌, ℕ, ◌+◌, ◌*◌, ◌<◌, ◌≤◌, ◌⊎◌, inl, inr, cond, nat_lt, List, [], ◌∷◌, ◌++◌, length, take, drop, get_or, decimal, refl, sym, ap, ◌∙◌, subst, arith, lit≤, append-nil, take-append-drop}
-use Rattle.std.proofs.lemmas.Bool.{cases_lt, lt-ltb, le-ltb}
-use Rattle.std.proofs.lemmas.Fmt.{decimal_is_IsNumeral, length-decimal-le}
-use Rattle.std.proofs.lemmas.List.{drop_more, get_or_at, get_or-take, take_at}
-use Rattle.std.proofs.lemmas.Str.Parse.{digit_at, digit_from_value}
-use Rattle.std.proofs.lemmas.Str.{digit_value_digit}
-use Rattle.std.specs.Char.{digit_value}
-use Rattle.ipnetwork_addr.specs.Texts.{dot}
-use Rattle.ipnetwork_addr.specs.Ipv4Text.{IsOctet, IsPlainOctet, NamesV4}
-use Rattle.ipnetwork_addr.specs.Private.NoAddress.{NamesNoV4}
-use Rattle.ipnetwork_addr.specs.Private.OctetFront.{IsNoOctet, IsOctetEnd, HasNoOctetEnd, BeginsWithOctet, NoOctetAndDot}
+use Rattle.ipnetwork_addr.proofs.Words.{◌≡◌, ◌≢◌, ℕ, ◌+◌, ◌*◌, ◌<◌, ◌≤◌, ◌⊎◌, inl, inr, cond, nat_lt, List, [], ◌∷◌, ◌++◌, length, take, drop, get_or, decimal, refl, sym, ap, ◌∙◌, subst, arith, lit≤, append-nil, take-append-drop, cases_lt, lt-ltb, le-ltb, decimal_is_IsNumeral, length-decimal-le, drop_more, get_or_at, get_or-take, take_at, digit_at, digit_from_value, digit_value_digit, digit_value, dot, IsOctet, IsPlainOctet, NamesV4, NamesNoV4, IsNoOctet, IsOctetEnd, HasNoOctetEnd, BeginsWithOctet, NoOctetAndDot}
 use Rattle.ipnetwork_addr.proofs.Octets.{BeginsWithDottedOctet}
 use Rattle.ipnetwork_addr.proofs.Ipv4Lemmas.{number_of, names_four, reading_of, same_after_a, same_after_b, same_after_c}
 use Rattle.ipnetwork_addr.proofs.PlainOctet.{plain_from_octet, octet_from_plain}
@@ -24,7 +14,8 @@ Value byte value = value ≡ cond (nat_lt (digit_value byte) 10) (digit_value by
 is_digit : (a v : ℕ) → Value a v → v < 256 → (digit_value a < 10) × (v ≡ digit_value a)
 is_digit a v value small = elim (cases_lt (digit_value a) 10) [
   | inl digit ↦ (digit, value ∙ ap (λ b. cond b (digit_value a) 256) (lt-ltb (digit_value a) 10 digit))
-  | inr none ↦ let k = value ∙ ap (λ b. cond b (digit_value a) 256) (le-ltb (digit_value a) 10 none) in absurd (omega arith)
+  | inr none ↦ let k = value ∙ ap (λ b. cond b (digit_value a) 256) (le-ltb (digit_value a) 10 none) in
+      absurd (omega arith)
 ]
 
 -- the value of a digit
@@ -62,7 +53,8 @@ two_digits a b v w n first second number low high =
       no_leading_zero = λ zero. let k = zero_value a v first zero in absurd (omega (arith, e.0, e.1));
     })
 
-pub three_digits : {a b c u v w n : ℕ} → Value a u → Value b v → Value c w → n ≡ u * 100 + v * 10 + w → 100 ≤ n → n ≤ 255 → IsOctet (a ∷ b ∷ c ∷ []) n
+pub three_digits : {a b c u v w n : ℕ} → Value a u → Value b v → Value c w → n ≡ u * 100 + v * 10 + w → 100 ≤ n
+    → n ≤ 255 → IsOctet (a ∷ b ∷ c ∷ []) n
 three_digits {a} {b} {c} {u} {v} {w} {n} first second third number low high =
     let d = is_digit a u first (omega arith) in
     let e = is_digit b v second (omega arith) in
@@ -80,7 +72,8 @@ no_octet_of_one a v value high n h =
     let plain = plain_from_octet (a ∷ []) n h in
     omega (arith, of_digit a v value plain.digits.1.0, plain.digits.1.0)
 
-pub no_octet_of_two : (a b v w : ℕ) → Value a v → Value b w → (v * 10 + w < 10) ⊎ (99 < v * 10 + w) → IsNoOctet (a ∷ b ∷ [])
+pub no_octet_of_two : (a b v w : ℕ) → Value a v → Value b w → (v * 10 + w < 10) ⊎ (99 < v * 10 + w)
+    → IsNoOctet (a ∷ b ∷ [])
 no_octet_of_two a b v w first second wrong n h = go wrong
   where
     plain : IsPlainOctet (a ∷ b ∷ []) n
@@ -93,7 +86,8 @@ no_octet_of_two a b v w first second wrong n h = go wrong
     go (inl low) = let k = plain.no_leading_zero (is_zero a plain.digits.1.0 (omega (arith, d))) in omega arith
     go (inr high) = omega (arith, d, of_digit b w second plain.digits.1.1.0, plain.digits.1.0, plain.digits.1.1.0)
 
-pub no_octet_of_three : {a b c u v w : ℕ} → Value a u → Value b v → Value c w → (u * 100 + v * 10 + w < 100) ⊎ (255 < u * 100 + v * 10 + w) → IsNoOctet (a ∷ b ∷ c ∷ [])
+pub no_octet_of_three : {a b c u v w : ℕ} → Value a u → Value b v → Value c w → (u * 100 + v * 10 + w < 100)
+    ⊎ (255 < u * 100 + v * 10 + w) → IsNoOctet (a ∷ b ∷ c ∷ [])
 no_octet_of_three {a} {b} {c} {u} {v} {w} first second third wrong n h = go wrong
   where
     plain : IsPlainOctet (a ∷ b ∷ c ∷ []) n
@@ -104,7 +98,14 @@ no_octet_of_three {a} {b} {c} {u} {v} {w} first second third wrong n h = go wron
 
     go : (u * 100 + v * 10 + w < 100) ⊎ (255 < u * 100 + v * 10 + w) → ⊥
     go (inl low) = let k = plain.no_leading_zero (is_zero a plain.digits.1.0 (omega (arith, d))) in omega arith
-    go (inr high) = omega (arith, d, of_digit b v second plain.digits.1.1.0, of_digit c w third plain.digits.1.1.1.0, plain.value, plain.bound)
+    go (inr high) = omega (
+      arith,
+      d,
+      of_digit b v second plain.digits.1.1.0,
+      of_digit c w third plain.digits.1.1.1.0,
+      plain.value,
+      plain.bound,
+    )
 
 pub no_octet_of_none : (text : List ℕ) → length text < 1 → IsNoOctet text
 no_octet_of_none text none n h = let plain = plain_from_octet text n h in omega (arith, none, plain.digits.0)
@@ -122,18 +123,22 @@ record Ending (text : List ℕ) (n : ℕ) (rest : List ℕ) (end : ℕ) : Type 0
   front : take end text ≡ decimal n
   digits : (i : ℕ) → i < end → get_or text i 0 ≢ dot
 
-ending : (text : List ℕ) (n : ℕ) (rest : List ℕ) → BeginsWithOctet text n (dot ∷ rest) → Ending text n rest (length (decimal n))
+ending : (text : List ℕ) (n : ℕ) (rest : List ℕ) → BeginsWithOctet text n (dot ∷ rest)
+    → Ending text n rest (length (decimal n))
 ending text n rest h =
     let (numeral, value) = decimal_is_IsNumeral n (omega (arith, h.bound)) in
-    let front : take (length (decimal n)) text ≡ decimal n = ap (take (length (decimal n))) h.split ∙ take_at (decimal n) (dot ∷ rest) (length (decimal n)) refl in
+    let front : take (length (decimal n)) text ≡ decimal n = ap (take (length (decimal n))) h.split
+    ∙ take_at (decimal n) (dot ∷ rest) (length (decimal n)) refl in
     record {
       some = numeral.0;
       few = length-decimal-le 3 n (omega arith) (omega (arith, h.bound)) (omega (arith, h.bound));
-      dotted = ap (λ t. get_or t (length (decimal n)) 0) h.split ∙ get_or_at (decimal n) dot rest 0 (length (decimal n)) refl;
+      dotted = ap (λ t. get_or t (length (decimal n)) 0) h.split
+          ∙ get_or_at (decimal n) dot rest 0 (length (decimal n)) refl;
       front = front;
       digits = λ i below here.
           let digit = digit_at (decimal n) i numeral.1 below in
-          let same : get_or (decimal n) i 0 ≡ get_or text i 0 = ap (λ t. get_or t i 0) (sym front) ∙ get_or-take (length (decimal n)) text i 0 below in
+          let same : get_or (decimal n) i 0 ≡ get_or text i 0 = ap (λ t. get_or t i 0) (sym front)
+          ∙ get_or-take (length (decimal n)) text i 0 below in
           omega (arith, digit.0, digit.1, same, here);
     }
 
@@ -153,53 +158,64 @@ no_octet_before text end at none n rest h =
       ]
     ]
 
-pub octet_before : (text : List ℕ) (end n : ℕ) → IsOctetEnd text end → IsOctet (take end text) n → BeginsWithOctet text n (dot ∷ drop (end + 1) text)
+pub octet_before : (text : List ℕ) (end n : ℕ) → IsOctetEnd text end → IsOctet (take end text) n
+    → BeginsWithOctet text n (dot ∷ drop (end + 1) text)
 octet_before text end n at h = record {
   bound = h.0;
   split =
-      sym (take-append-drop end text) ∙ ap (λ t. take end text ++ t) (drop_more text end 0 at.within ∙ ap (λ b. b ∷ drop (end + 1) text) at.here)
+      sym (take-append-drop end text)
+      ∙ ap (λ t. take end text ++ t) (drop_more text end 0 at.within ∙ ap (λ b. b ∷ drop (end + 1) text) at.here)
       ∙ ap (λ t. t ++ dot ∷ drop (end + 1) text) h.1;
   stops = inl (lit≤ tt);
 }
 
 -- ---- four octets
 
-dotted : (text : List ℕ) (n : ℕ) (rest : List ℕ) → BeginsWithOctet text n rest → BeginsWithDottedOctet (dot ∷ text) n rest
+dotted : (text : List ℕ) (n : ℕ) (rest : List ℕ) → BeginsWithOctet text n rest
+    → BeginsWithDottedOctet (dot ∷ text) n rest
 dotted text n rest h = record { after_dot = text; dotted = refl; begins = h }
 
 whole : (text : List ℕ) (n : ℕ) → IsOctet text n → BeginsWithOctet text n []
 whole text n h = record { bound = h.0; split = h.1 ∙ sym (append-nil (decimal n)); stops = inl (lit≤ tt) }
 
-pub four_octets : {text : List ℕ} {a b c d : ℕ} {r s t : List ℕ} → BeginsWithOctet text a (dot ∷ r) → BeginsWithOctet r b (dot ∷ s) → BeginsWithOctet s c (dot ∷ t) → IsOctet t d → NamesV4 text (number_of a b c d)
+pub four_octets : {text : List ℕ} {a b c d : ℕ} {r s t : List ℕ} → BeginsWithOctet text a (dot ∷ r)
+    → BeginsWithOctet r b (dot ∷ s) → BeginsWithOctet s c (dot ∷ t) → IsOctet t d → NamesV4 text (number_of a b c d)
 four_octets {text} {a} {b} {c} {d} {r} {s} {t} first second third fourth =
     names_four first (dotted r b (dot ∷ s) second) (dotted s c (dot ∷ t) third) (dotted t d [] (whole t d fourth)) refl
 
 -- the octet after a dot
-behind : (before text : List ℕ) (n : ℕ) (after : List ℕ) → before ≡ dot ∷ text → BeginsWithDottedOctet before n after → BeginsWithOctet text n after
+behind : (before text : List ℕ) (n : ℕ) (after : List ℕ) → before ≡ dot ∷ text → BeginsWithDottedOctet before n after
+    → BeginsWithOctet text n after
 behind before text n after e h = subst (λ t. BeginsWithOctet t n after) (ap (drop 1) (sym h.dotted ∙ e)) h.begins
 
 -- the octet before a dot at the front of the rest
-before : (text : List ℕ) (n : ℕ) (rest after : List ℕ) → rest ≡ dot ∷ after → BeginsWithOctet text n rest → BeginsWithOctet text n (dot ∷ after)
+before : (text : List ℕ) (n : ℕ) (rest after : List ℕ) → rest ≡ dot ∷ after → BeginsWithOctet text n rest
+    → BeginsWithOctet text n (dot ∷ after)
 before text n rest after e h = subst (BeginsWithOctet text n) e h
 
 pub no_first : (text : List ℕ) → NoOctetAndDot text → NamesNoV4 text
 no_first text none address h =
-    let k = (reading_of text address h).chain in none _ k.second.after_dot (before text _ k.after_a k.second.after_dot k.second.dotted k.first)
+    let k = (reading_of text address h).chain in
+    none _ k.second.after_dot (before text _ k.after_a k.second.after_dot k.second.dotted k.first)
 
-pub no_second : {text : List ℕ} {a : ℕ} {r : List ℕ} → BeginsWithOctet text a (dot ∷ r) → NoOctetAndDot r → NamesNoV4 text
+pub no_second : {text : List ℕ} {a : ℕ} {r : List ℕ} → BeginsWithOctet text a (dot ∷ r) → NoOctetAndDot r
+    → NamesNoV4 text
 no_second {text} {a} {r} first none address h =
     let k = (reading_of text address h).chain in
     let second = behind k.after_a r _ k.after_b (same_after_a first k) k.second in
     none _ k.third.after_dot (before r _ k.after_b k.third.after_dot k.third.dotted second)
 
-pub no_third : {text : List ℕ} {a b : ℕ} {r s : List ℕ} → BeginsWithOctet text a (dot ∷ r) → BeginsWithOctet r b (dot ∷ s) → NoOctetAndDot s → NamesNoV4 text
+pub no_third : {text : List ℕ} {a b : ℕ} {r s : List ℕ} → BeginsWithOctet text a (dot ∷ r)
+    → BeginsWithOctet r b (dot ∷ s) → NoOctetAndDot s → NamesNoV4 text
 no_third {text} {a} {b} {r} {s} first second none address h =
     let k = (reading_of text address h).chain in
     let third = behind k.after_b s _ k.after_c (same_after_b first (dotted r b (dot ∷ s) second) k) k.third in
     none _ k.fourth.after_dot (before s _ k.after_c k.fourth.after_dot k.fourth.dotted third)
 
-pub no_fourth : {text : List ℕ} {a b c : ℕ} {r s t : List ℕ} → BeginsWithOctet text a (dot ∷ r) → BeginsWithOctet r b (dot ∷ s) → BeginsWithOctet s c (dot ∷ t) → IsNoOctet t → NamesNoV4 text
+pub no_fourth : {text : List ℕ} {a b c : ℕ} {r s t : List ℕ} → BeginsWithOctet text a (dot ∷ r)
+    → BeginsWithOctet r b (dot ∷ s) → BeginsWithOctet s c (dot ∷ t) → IsNoOctet t → NamesNoV4 text
 no_fourth {text} {a} {b} {c} {r} {s} {t} first second third none address h =
     let k = (reading_of text address h).chain in
-    let fourth = behind k.after_c t _ [] (same_after_c first (dotted r b (dot ∷ s) second) (dotted s c (dot ∷ t) third) k) k.fourth in
+    let fourth = behind k.after_c t _ []
+    (same_after_c first (dotted r b (dot ∷ s) second) (dotted s c (dot ∷ t) third) k) k.fourth in
     none _ (fourth.bound, fourth.split ∙ append-nil (decimal _))

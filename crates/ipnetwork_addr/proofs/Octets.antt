@@ -1,10 +1,5 @@
 -- The octet that a text begins with.
-use Rattle.std.proofs.Common.{◌≡◌, ℕ, ◌+◌, ◌/◌, ◌%◌, ◌<◌, ◌≤◌, ◌⊎◌, inl, inr, List, ◌∷◌, ◌++◌, drop, get_or, decimal, refl, sym, ap, ◌∙◌, arith}
-use Rattle.std.proofs.lemmas.Bool.{cases_lt}
-use Rattle.std.proofs.lemmas.List.{append_cancel_left}
-use Rattle.std.proofs.lemmas.Fmt.{decimal_digit}
-use Rattle.ipnetwork_addr.specs.Private.OctetFront.{BeginsWithOctet}
-use Rattle.ipnetwork_addr.specs.Texts.{dot}
+use Rattle.ipnetwork_addr.proofs.Words.{◌≡◌, ℕ, ◌+◌, ◌/◌, ◌%◌, ◌<◌, ◌≤◌, ◌⊎◌, inl, inr, List, ◌∷◌, ◌++◌, drop, get_or, decimal, refl, sym, ap, ◌∙◌, arith, cases_lt, append_cancel_left, decimal_digit, BeginsWithOctet, dot}
 use Rattle.ipnetwork_addr.proofs.Decimals.{decimal_two, decimal_three}
 
 -- the text is a dot and an octet, followed by the rest
@@ -22,8 +17,10 @@ NotDigit byte = (byte < 48) ⊎ (57 < byte)
 -- the text begins with the one, two or three digits of n, and no digit follows
 data Bytes (text : List ℕ) (n : ℕ) : Type 0 where
   One : n < 10 → get_or text 0 0 ≡ 48 + n → NotDigit (get_or text 1 0) → Bytes text n
-  Two : 10 ≤ n → n < 100 → get_or text 0 0 ≡ 48 + n / 10 → get_or text 1 0 ≡ 48 + n % 10 → NotDigit (get_or text 2 0) → Bytes text n
-  Three : 100 ≤ n → n ≤ 255 → get_or text 0 0 ≡ 48 + n / 100 → get_or text 1 0 ≡ 48 + n / 10 % 10 → get_or text 2 0 ≡ 48 + n % 10 → NotDigit (get_or text 3 0) → Bytes text n
+  Two : 10 ≤ n → n < 100 → get_or text 0 0 ≡ 48 + n / 10 → get_or text 1 0 ≡ 48 + n % 10 → NotDigit (get_or text 2 0)
+      → Bytes text n
+  Three : 100 ≤ n → n ≤ 255 → get_or text 0 0 ≡ 48 + n / 100 → get_or text 1 0 ≡ 48 + n / 10 % 10
+      → get_or text 2 0 ≡ 48 + n % 10 → NotDigit (get_or text 3 0) → Bytes text n
 
 bytes_of : (text : List ℕ) (n : ℕ) (rest : List ℕ) → BeginsWithOctet text n rest → Bytes text n
 bytes_of text n rest h = elim (cases_lt n 10) [
@@ -32,10 +29,12 @@ bytes_of text n rest h = elim (cases_lt n 10) [
       rw e (One one refl h.stops)
   | inr ten ↦ elim (cases_lt n 100) [
     | inl two ↦
-        let e : text ≡ (48 + n / 10) ∷ (48 + n % 10) ∷ rest = h.split ∙ ap (λ front. front ++ rest) (decimal_two n ten two) in
+        let e : text ≡ (48 + n / 10) ∷ (48 + n % 10) ∷ rest = h.split
+        ∙ ap (λ front. front ++ rest) (decimal_two n ten two) in
         rw e (Two ten two refl refl h.stops)
     | inr hundred ↦
-        let e : text ≡ (48 + n / 100) ∷ (48 + n / 10 % 10) ∷ (48 + n % 10) ∷ rest = h.split ∙ ap (λ front. front ++ rest) (decimal_three n hundred (omega (arith, h.bound))) in
+        let e : text ≡ (48 + n / 100) ∷ (48 + n / 10 % 10) ∷ (48 + n % 10) ∷ rest = h.split
+        ∙ ap (λ front. front ++ rest) (decimal_three n hundred (omega (arith, h.bound))) in
         rw e (Three hundred h.bound refl refl refl h.stops)
   ]
 ]
@@ -49,21 +48,29 @@ not_both byte d e below (inr h) = omega arith
 
 same_octet : (text : List ℕ) (n m : ℕ) → Bytes text n → Bytes text m → n ≡ m
 same_octet text n m (One below e stops) (One below' e' stops') = omega arith
-same_octet text n m (One below e stops) (Two low' high' e' f' stops') = absurd (not_both _ (m % 10) f' (omega arith) stops)
-same_octet text n m (One below e stops) (Three low' high' e' f' g' stops') = absurd (not_both _ (m / 10 % 10) f' (omega arith) stops)
-same_octet text n m (Two low high e f stops) (One below' e' stops') = absurd (not_both _ (n % 10) f (omega arith) stops')
+same_octet text n m (One below e stops) (Two low' high' e' f' stops') =
+    absurd (not_both _ (m % 10) f' (omega arith) stops)
+same_octet text n m (One below e stops) (Three low' high' e' f' g' stops') =
+    absurd (not_both _ (m / 10 % 10) f' (omega arith) stops)
+same_octet text n m (Two low high e f stops) (One below' e' stops') =
+    absurd (not_both _ (n % 10) f (omega arith) stops')
 same_octet text n m (Two low high e f stops) (Two low' high' e' f' stops') = omega arith
-same_octet text n m (Two low high e f stops) (Three low' high' e' f' g' stops') = absurd (not_both _ (m % 10) g' (omega arith) stops)
-same_octet text n m (Three low high e f g stops) (One below' e' stops') = absurd (not_both _ (n / 10 % 10) f (omega arith) stops')
-same_octet text n m (Three low high e f g stops) (Two low' high' e' f' stops') = absurd (not_both _ (n % 10) g (omega arith) stops')
+same_octet text n m (Two low high e f stops) (Three low' high' e' f' g' stops') =
+    absurd (not_both _ (m % 10) g' (omega arith) stops)
+same_octet text n m (Three low high e f g stops) (One below' e' stops') =
+    absurd (not_both _ (n / 10 % 10) f (omega arith) stops')
+same_octet text n m (Three low high e f g stops) (Two low' high' e' f' stops') =
+    absurd (not_both _ (n % 10) g (omega arith) stops')
 same_octet text n m (Three low high e f g stops) (Three low' high' e' f' g' stops') = omega arith
 
-pub octet_unique : (text : List ℕ) (n m : ℕ) (r s : List ℕ) → BeginsWithOctet text n r → BeginsWithOctet text m s → (n ≡ m) × (r ≡ s)
+pub octet_unique : (text : List ℕ) (n m : ℕ) (r s : List ℕ) → BeginsWithOctet text n r → BeginsWithOctet text m s
+    → (n ≡ m) × (r ≡ s)
 octet_unique text n m r s h k =
     let same : n ≡ m = same_octet text n m (bytes_of text n r h) (bytes_of text m s k) in
     (same, append_cancel_left (decimal n) r s (sym h.split ∙ k.split ∙ ap (λ x. decimal x ++ s) (sym same)))
 
-pub dotted_octet_unique : (text : List ℕ) (n m : ℕ) (r s : List ℕ) → BeginsWithDottedOctet text n r → BeginsWithDottedOctet text m s → (n ≡ m) × (r ≡ s)
+pub dotted_octet_unique : (text : List ℕ) (n m : ℕ) (r s : List ℕ) → BeginsWithDottedOctet text n r
+    → BeginsWithDottedOctet text m s → (n ≡ m) × (r ≡ s)
 dotted_octet_unique text n m r s h k =
     let same : h.after_dot ≡ k.after_dot = ap (drop 1) (sym h.dotted ∙ k.dotted) in
     octet_unique k.after_dot n m r s (rw same at h.begins) k.begins

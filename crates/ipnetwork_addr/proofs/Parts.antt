@@ -1,12 +1,5 @@
 -- A part of an IPv6 text: groups joined by colons.
-use Rattle.std.proofs.Common.{◌≡◌, ◌≢◌, ℕ, ◌<◌, ◌≤◌, List, [], ◌∷◌, ◌++◌, length, get_or, drop, decimal, Option, None, Some, refl, sym, ap, ◌∙◌, subst, arith, lit≤}
-use Rattle.std.proofs.lemmas.Fmt.{decimal_is_IsNumeral, length-decimal-le}
-use Rattle.std.specs.Char.{digit_value}
-use Rattle.std.specs.Str.Parse.{AllDigits, digits_value}
-use Rattle.ipnetwork_addr.specs.Texts.{dot, colon}
-use Rattle.ipnetwork_addr.specs.Ipv4Text.{NamesV4}
-use Rattle.ipnetwork_addr.specs.Ipv6Text.{two_groups}
-use Rattle.ipnetwork_addr.specs.Private.GroupFront.{NoHex, BeginsWithGroup, NoGroup, Last, Dotted, Gap, Next, IsTextPart}
+use Rattle.ipnetwork_addr.proofs.Words.{◌≡◌, ◌≢◌, ℕ, ◌<◌, ◌≤◌, List, [], ◌∷◌, ◌++◌, length, get_or, drop, decimal, Option, None, Some, refl, sym, ap, ◌∙◌, subst, arith, lit≤, decimal_is_IsNumeral, length-decimal-le, digit_value, AllDigits, digits_value, dot, colon, NamesV4, two_groups, NoHex, BeginsWithGroup, NoGroup, Last, Dotted, Gap, Next, IsTextPart}
 use Rattle.ipnetwork_addr.proofs.Groups.{group_unique}
 use Rattle.ipnetwork_addr.proofs.Ipv4Lemmas.{reading_of, v4_unique}
 
@@ -33,7 +26,8 @@ v4_begins text address h =
         front = decimal k.a;
         named = record {
           digits = (numeral.0, hex_from_decimal (decimal k.a) numeral.1);
-          short = let short : length (decimal k.a) ≤ 3 = length-decimal-le 3 k.a (omega arith) (omega arith) (omega arith) in omega arith;
+          short = let short : length (decimal k.a) ≤ 3 =
+              length-decimal-le 3 k.a (omega arith) (omega arith) (omega arith) in omega arith;
           value = refl;
         };
         split = k.chain.first.split ∙ ap (λ t. decimal k.a ++ t) k.chain.second.dotted;
@@ -45,11 +39,15 @@ v4_begins text address h =
 
 pub data Kind (text : List ℕ) (group : ℕ) (after : List ℕ) (groups : List ℕ) (end : Option (List ℕ)) : Type 0 where
   IsLast : after ≡ [] → groups ≡ group ∷ [] → end ≡ None → Kind text group after groups end
-  IsDot : (address : ℕ) (more : List ℕ) → after ≡ dot ∷ more → NamesV4 text address → groups ≡ two_groups address → end ≡ None → Kind text group after groups end
-  IsGap : (next : List ℕ) → after ≡ colon ∷ colon ∷ next → groups ≡ group ∷ [] → end ≡ Some next → Kind text group after groups end
-  IsNext : (next more : List ℕ) → after ≡ colon ∷ next → groups ≡ group ∷ more → IsTextPart more next end → Kind text group after groups end
+  IsDot : (address : ℕ) (more : List ℕ) → after ≡ dot ∷ more → NamesV4 text address → groups ≡ two_groups address
+      → end ≡ None → Kind text group after groups end
+  IsGap : (next : List ℕ) → after ≡ colon ∷ colon ∷ next → groups ≡ group ∷ [] → end ≡ Some next
+      → Kind text group after groups end
+  IsNext : (next more : List ℕ) → after ≡ colon ∷ next → groups ≡ group ∷ more → IsTextPart more next end
+      → Kind text group after groups end
 
-pub kind_of : (groups text : List ℕ) (end : Option (List ℕ)) (g : ℕ) (after : List ℕ) → BeginsWithGroup text g after → IsTextPart groups text end → Kind text g after groups end
+pub kind_of : (groups text : List ℕ) (end : Option (List ℕ)) (g : ℕ) (after : List ℕ) → BeginsWithGroup text g after
+    → IsTextPart groups text end → Kind text g after groups end
 kind_of [] text end g after b part = absurd part
 kind_of (h ∷ groups) text end g after b (Last c e f) =
     let same = group_unique text g h after [] b c in
@@ -69,7 +67,8 @@ kind_of (h ∷ groups) text end g after b (Next next c more) =
 pub no_group_no_part : (groups text : List ℕ) (end : Option (List ℕ)) → NoGroup text → ¬ (IsTextPart groups text end)
 no_group_no_part [] text end none part = part
 no_group_no_part (g ∷ groups) text end none (Last b e f) = none g [] b
-no_group_no_part (g ∷ groups) text end none (Dotted address named e f) = let b = v4_begins text address named in none b.group (dot ∷ b.after) b.begins
+no_group_no_part (g ∷ groups) text end none (Dotted address named e f) = let b = v4_begins text address named in
+    none b.group (dot ∷ b.after) b.begins
 no_group_no_part (g ∷ groups) text end none (Gap next b e f) = none g (colon ∷ colon ∷ next) b
 no_group_no_part (g ∷ groups) text end none (Next next b more) = none g (colon ∷ next) b
 
@@ -101,10 +100,8 @@ nil_cons x xs e = let n = ap length e in omega arith
 pub other_first : (x y : ℕ) (xs ys : List ℕ) → x ∷ xs ≡ y ∷ ys → x ≢ y → ⊥
 other_first x y xs ys e other = other (ap (λ t. get_or t 0 0) e)
 
-pub behind_first : (x y : ℕ) (xs ys : List ℕ) → x ∷ xs ≡ y ∷ ys → xs ≡ ys
-behind_first x y xs ys e = ap (drop 1) e
-
-pub part_unique : (gs hs text : List ℕ) (e f : Option (List ℕ)) → IsTextPart gs text e → IsTextPart hs text f → (gs ≡ hs) × (e ≡ f)
+pub part_unique : (gs hs text : List ℕ) (e f : Option (List ℕ)) → IsTextPart gs text e → IsTextPart hs text f
+    → (gs ≡ hs) × (e ≡ f)
 part_unique [] hs text e f p q = absurd p
 part_unique (g ∷ gs) hs text e f (Last b is_gs is_e) q = elim (kind_of hs text f g [] b q) [
   | IsLast _ is_hs is_f ↦ (ap (λ t. g ∷ t) is_gs ∙ sym is_hs, is_e ∙ sym is_f)
@@ -116,7 +113,8 @@ part_unique (g ∷ gs) hs text e f (Dotted address named is_gs is_e) q =
     let b = v4_begins text address named in
     elim (kind_of hs text f b.group (dot ∷ b.after) b.begins q) [
       | IsLast s _ _ ↦ absurd (nil_cons dot b.after (sym s))
-      | IsDot other more s named' is_hs is_f ↦ (is_gs ∙ ap two_groups (v4_unique text address other named named') ∙ sym is_hs, is_e ∙ sym is_f)
+      | IsDot other more s named' is_hs
+          is_f ↦ (is_gs ∙ ap two_groups (v4_unique text address other named named') ∙ sym is_hs, is_e ∙ sym is_f)
       | IsGap next s _ _ ↦ absurd (other_first dot colon b.after (colon ∷ next) s (omega arith))
       | IsNext next _ s _ _ ↦ absurd (other_first dot colon b.after next s (omega arith))
     ]
@@ -124,13 +122,16 @@ part_unique (g ∷ gs) hs text e f (Gap next b is_gs is_e) q = elim (kind_of hs 
   | IsLast s _ _ ↦ absurd (nil_cons colon (colon ∷ next) (sym s))
   | IsDot _ more s _ _ _ ↦ absurd (other_first colon dot (colon ∷ next) more s (omega arith))
   | IsGap other s is_hs is_f ↦ (ap (λ t. g ∷ t) is_gs ∙ sym is_hs, is_e ∙ ap Some (ap (drop 2) s) ∙ sym is_f)
-  | IsNext other more s _ part ↦ absurd (no_part_at_colon more next f (subst (λ (t : List ℕ). IsTextPart more t f) (sym (ap (drop 1) s)) part))
+  | IsNext other more s _ part ↦ absurd
+      (no_part_at_colon more next f (subst (λ (t : List ℕ). IsTextPart more t f) (sym (ap (drop 1) s)) part))
 ]
 part_unique (g ∷ gs) hs text e f (Next next b part) q = elim (kind_of hs text f g (colon ∷ next) b q) [
   | IsLast s _ _ ↦ absurd (nil_cons colon next (sym s))
   | IsDot _ more s _ _ _ ↦ absurd (other_first colon dot next more s (omega arith))
-  | IsGap other s _ _ ↦ absurd (no_part_at_colon gs other e (subst (λ (t : List ℕ). IsTextPart gs t e) (ap (drop 1) s) part))
+  | IsGap other s _ _ ↦ absurd
+      (no_part_at_colon gs other e (subst (λ (t : List ℕ). IsTextPart gs t e) (ap (drop 1) s) part))
   | IsNext other more s is_hs part' ↦
-      let later = part_unique gs more next e f part (subst (λ (t : List ℕ). IsTextPart more t f) (sym (ap (drop 1) s)) part') in
+      let later = part_unique gs more next e f part
+      (subst (λ (t : List ℕ). IsTextPart more t f) (sym (ap (drop 1) s)) part') in
       (ap (λ t. g ∷ t) later.0 ∙ sym is_hs, later.1)
 ]

@@ -1,10 +1,5 @@
 -- Octet texts in elementary terms.
-use Rattle.std.proofs.Common.{◌≡◌, ℕ, ◌^◌, ◌<◌, ◌≤◌, inl, inr, List, length, get_or, decimal, sym, ap, ◌∙◌, arith}
-use Rattle.std.proofs.lemmas.Bool.{cases_lt}
-use Rattle.std.specs.Str.Parse.{AllDigits, digits_value}
-use Rattle.std.proofs.lemmas.Str.Parse.{IsNumeralModel, numerals_by_value, tells_digits}
-use Rattle.std.proofs.lemmas.Fmt.{decimal_digit, decimal_is_IsNumeral, length-decimal-le, first_decimal, decimal-digits_value}
-use Rattle.ipnetwork_addr.specs.Ipv4Text.{IsOctet, IsPlainOctet}
+use Rattle.ipnetwork_addr.proofs.Words.{◌≡◌, ℕ, ◌^◌, ◌<◌, ◌≤◌, inl, inr, List, length, get_or, decimal, sym, ap, ◌∙◌, arith, cases_lt, AllDigits, digits_value, IsNumeralModel, numerals_by_value, tells_digits, decimal_digit, decimal_is_IsNumeral, length-decimal-le, first_decimal, decimal-digits_value, IsOctet, IsPlainOctet}
 
 own : IsNumeralModel (AllDigits 10) (digits_value 10)
 own = numerals_by_value (AllDigits 10) tells_digits

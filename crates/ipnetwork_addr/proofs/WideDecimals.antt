@@ -1,9 +1,6 @@
 -- Long decimals: their lengths, and writing them in parts.
-use Rattle.std.proofs.Common.{◌≡◌, ℕ, zero, suc, ◌+◌, ◌-◌, ◌*◌, ◌/◌, ◌%◌, ◌^◌, ◌<◌, ◌≤◌, List, [], ◌∷◌, ◌++◌, length, decimal, refl, sym, ap, ◌∙◌, arith, add-one, append_assoc, length-append, mul-le-mul_right}
-use Rattle.std.proofs.lemmas.Fmt.{decimal_digit, decimal_step, decimal_step_wide, decimal_by_steps, length-decimal-le}
-use Rattle.std.proofs.Math.Nat.{pow-succ'}
+use Rattle.ipnetwork_addr.proofs.Words.{◌≡◌, ℕ, zero, suc, ◌+◌, ◌-◌, ◌*◌, ◌/◌, ◌%◌, ◌^◌, ◌<◌, ◌≤◌, List, [], ◌∷◌, ◌++◌, length, decimal, refl, sym, ap, ◌∙◌, arith, add-one, append_assoc, length-append, mul-le-mul_right, decimal_digit, decimal_step, decimal_step_wide, decimal_by_steps, length-decimal-le, pow-succ', padded_decimal}
 use Rattle.std.proofs.lemmas.List.{append-nil}
-use Rattle.ipnetwork_addr.specs.Private.Decimals.{padded_decimal}
 use Rattle.ipnetwork_addr.proofs.Decimals.{IsPushed}
 
 pub length-decimal_step : (n : ℕ) → 10 ≤ n → n < 2 ^ 64 → length (decimal n) ≡ length (decimal (n / 10)) + 1
@@ -19,7 +16,8 @@ length-padded zero n = refl
 length-padded (suc count) n =
     length-append (padded_decimal count (n / 10)) ((48 + n % 10) ∷ []) ∙ omega (arith, length-padded count (n / 10))
 
-pub padded_step : (count n : ℕ) → 0 < count → padded_decimal count n ≡ padded_decimal (count - 1) (n / 10) ++ (48 + n % 10) ∷ []
+pub padded_step : (count n : ℕ) → 0 < count → padded_decimal count n ≡ padded_decimal (count - 1) (n / 10)
+    ++ (48 + n % 10) ∷ []
 unfolding padded_decimal
 padded_step zero n h = absurd (omega arith)
 padded_step (suc count) n h =
@@ -50,12 +48,15 @@ pub padded_none : (text : List ℕ) (count n : ℕ) → count ≡ 0 → text ≡
 unfolding padded_decimal
 padded_none text count n none = rw none (sym (append-nil text))
 
-pub padded_one : (text one : List ℕ) (count n d : ℕ) → count ≡ 1 → d ≡ 48 + n % 10 → one ≡ text ++ d ∷ [] → one ≡ text ++ padded_decimal count n
+pub padded_one : (text one : List ℕ) (count n d : ℕ) → count ≡ 1 → d ≡ 48 + n % 10 → one ≡ text ++ d ∷ []
+    → one ≡ text ++ padded_decimal count n
 unfolding padded_decimal
 padded_one text one count n d single is_d h = h ∙ rw (single, is_d) refl
 
-pub padded_pushed : (text most one two : List ℕ) (count n d e : ℕ) → 2 ≤ count → most ≡ text ++ padded_decimal (count - 2) (n / 100)
-    → d ≡ 48 + n % 100 / 10 → e ≡ 48 + n % 100 % 10 → one ≡ most ++ d ∷ [] → two ≡ one ++ e ∷ [] → two ≡ text ++ padded_decimal count n
+pub padded_pushed : (text most one two : List ℕ) (count n d e : ℕ) → 2 ≤ count
+    → most ≡ text ++ padded_decimal (count - 2) (n / 100)
+    → d ≡ 48 + n % 100 / 10 → e ≡ 48 + n % 100 % 10 → one ≡ most ++ d ∷ [] → two ≡ one ++ e ∷ []
+    → two ≡ text ++ padded_decimal count n
 padded_pushed text most one two count n d e some h is_d is_e k l =
     let tens : d ≡ 48 + n / 10 % 10 = is_d ∙ (omega arith) in
     let ones : e ≡ 48 + n % 10 = is_e ∙ (omega arith) in
@@ -71,10 +72,12 @@ unfolding padded_decimal
 padded-shortest n small =
     decimal_by_steps (λ m ds. padded_decimal (length ds) m ≡ ds)
     (λ m h. ap (λ d. (48 + d) ∷ []) (omega arith))
-    (λ m ds h same. rw (length-append ds ((48 + m % 10) ∷ []), add-one) (ap (λ front. front ++ (48 + m % 10) ∷ []) same))
+    (λ m ds h same. rw (length-append ds ((48 + m % 10) ∷ []), add-one)
+    (ap (λ front. front ++ (48 + m % 10) ∷ []) same))
     n small
 
-pub shortest_pushed : (text one : List ℕ) (n count : ℕ) → n < 2 ^ 64 → count ≡ length (decimal n) → one ≡ text ++ padded_decimal count n
+pub shortest_pushed : (text one : List ℕ) (n count : ℕ) → n < 2 ^ 64 → count ≡ length (decimal n)
+    → one ≡ text ++ padded_decimal count n
     → one ≡ text ++ decimal n
 shortest_pushed text one n count small counted h = h ∙ ap (λ d. text ++ d) (rw counted (padded-shortest n small))
 
@@ -82,7 +85,8 @@ shortest_pushed text one n count small counted h = h ∙ ap (λ d. text ++ d) (r
 abbrev pub CountsDigits : ℕ → ℕ → ℕ → Type 0
 CountsDigits n count rest = length (decimal n) + 1 ≡ count + length (decimal rest)
 
-pub counted_step : (n count rest : ℕ) → 10 ≤ rest → rest < 2 ^ 64 → CountsDigits n count rest → CountsDigits n (count + 1) (rest / 10)
+pub counted_step : (n count rest : ℕ) → 10 ≤ rest → rest < 2 ^ 64 → CountsDigits n count rest
+    → CountsDigits n (count + 1) (rest / 10)
 counted_step n count rest low fits all = omega (arith, all, length-decimal_step rest low fits)
 
 pub counted_end : (n count rest : ℕ) → rest < 10 → CountsDigits n count rest → count ≡ length (decimal n)
@@ -103,7 +107,8 @@ pub record IsDivided (n high low : ℕ) : Type 0 where
   pub is_high : high ≡ n / 10 ^ 19
   pub is_low : low ≡ n % 10 ^ 19
 
-pub parts_two : {n high low : ℕ} → n < 2 ^ 128 → IsDivided n high low → 0 < high → decimal n ≡ decimal high ++ padded_decimal 19 low
+pub parts_two : {n high low : ℕ} → n < 2 ^ 128 → IsDivided n high low → 0 < high
+    → decimal n ≡ decimal high ++ padded_decimal 19 low
 parts_two {n} {high} {low} fits divided some =
     let whole : n ≡ high * 10 ^ 19 + low = omega (arith, divided.is_high, divided.is_low) in
     let below : low < 10 ^ 19 = omega (arith, divided.is_low) in
@@ -113,10 +118,13 @@ pub two_pushed : (text one two : List ℕ) {n high low : ℕ} → n < 2 ^ 128 �
     → one ≡ text ++ decimal high → two ≡ one ++ padded_decimal 19 low → two ≡ text ++ decimal n
 two_pushed text one two fits divided some h k = k ∙ rw (h, parts_two fits divided some, append_assoc)
 
-pub three_pushed : {text one : List ℕ} (two three : List ℕ) {n high top middle low : ℕ} → n < 2 ^ 128 → IsDivided n high low → 10 ^ 19 ≤ high → IsDivided high top middle
-    → IsPushed text (48 + top) one → two ≡ one ++ padded_decimal 19 middle → three ≡ two ++ padded_decimal 19 low → three ≡ text ++ decimal n
+pub three_pushed : {text one : List ℕ} (two three : List ℕ) {n high top middle low : ℕ} → n < 2 ^ 128
+    → IsDivided n high low → 10 ^ 19 ≤ high → IsDivided high top middle
+    → IsPushed text (48 + top) one → two ≡ one ++ padded_decimal 19 middle → three ≡ two ++ padded_decimal 19 low
+    → three ≡ text ++ decimal n
 three_pushed {text} {one} two three {n} {high} {top} fits divided large upper h k l =
     let small : high < 2 ^ 128 = omega (arith, divided.is_high) in
     let digit : top < 10 = omega (arith, upper.is_high, divided.is_high) in
     let some : 0 < top = omega (arith, upper.is_high) in
-    two_pushed text two three fits divided (omega arith) (two_pushed text one two small upper some (digit_pushed top digit h) k) l
+    two_pushed text two three fits divided (omega arith)
+    (two_pushed text one two small upper some (digit_pushed top digit h) k) l

@@ -1,9 +1,5 @@
 -- The leftmost of the longest runs of zero groups, computed.
-use Rattle.std.proofs.Common.{◌≡◌, ℕ, zero, suc, ◌+◌, ◌-◌, ◌<◌, ◌≤◌, ◌==◌, List, [], ◌∷◌, length, get_or, take, drop, replicate, length-drop, get_or-drop, refl, sym, ap, ap₂, ◌∙◌, arith, inl, inr}
-use Rattle.std.specs.Prelude.{nat_le}
-use Rattle.std.proofs.lemmas.Bool.{cond_both, leb-true, leb-false, eqb-true, cases_eq, cases_lt}
-use Rattle.ipnetwork_addr.specs.Ipv6Canonical.{IsZeroRun, IsGap}
-use Rattle.ipnetwork_addr.specs.Computed.Ipv6Canonical.{zeros_in_front, gap_among}
+use Rattle.ipnetwork_addr.proofs.Words.{◌≡◌, ℕ, zero, suc, ◌+◌, ◌-◌, ◌<◌, ◌≤◌, ◌==◌, List, [], ◌∷◌, length, get_or, take, drop, replicate, length-drop, get_or-drop, refl, sym, ap, ap₂, ◌∙◌, arith, inl, inr, nat_le, cond_both, leb-true, leb-false, eqb-true, cases_eq, cases_lt, IsZeroRun, IsGap, zeros_in_front, gap_among}
 
 -- ---- the zeros before the first nonzero group
 
@@ -11,9 +7,11 @@ pub zeros_fit : (groups : List ℕ) → zeros_in_front groups ≤ length groups
 zeros_fit [] = omega arith
 zeros_fit (g ∷ groups) =
     let more = zeros_fit groups in
-    cond_both (g == 0) (suc (zeros_in_front groups)) 0 (λ n. n ≤ length (g ∷ groups)) (λ _. omega (arith, more)) (λ _. omega arith)
+    cond_both (g == 0) (suc (zeros_in_front groups)) 0 (λ n. n ≤ length (g ∷ groups)) (λ _. omega (arith, more))
+    (λ _. omega arith)
 
-zero_first : (g : ℕ) (groups : List ℕ) → g ≡ 0 → ((position : ℕ) → position < zeros_in_front groups → get_or groups position 0 ≡ 0) → (position : ℕ) → position < suc (zeros_in_front groups) → get_or (g ∷ groups) position 0 ≡ 0
+zero_first : (g : ℕ) (groups : List ℕ) → g ≡ 0 → ((position : ℕ) → position < zeros_in_front groups → get_or groups
+    position 0 ≡ 0) → (position : ℕ) → position < suc (zeros_in_front groups) → get_or (g ∷ groups) position 0 ≡ 0
 zero_first g groups e later zero h = e
 zero_first g groups e later (suc position) h = later position (omega (arith, h))
 
@@ -25,12 +23,14 @@ zeros_are (g ∷ groups) position h =
     (λ is_zero k. zero_first g groups (eqb-true g 0 is_zero) later position k)
     (λ other k. absurd (omega (arith, k))) h
 
-zeros_most : (groups : List ℕ) (n : ℕ) → n ≤ length groups → ((position : ℕ) → position < n → get_or groups position 0 ≡ 0) → n ≤ zeros_in_front groups
+zeros_most : (groups : List ℕ) (n : ℕ) → n ≤ length groups
+    → ((position : ℕ) → position < n → get_or groups position 0 ≡ 0) → n ≤ zeros_in_front groups
 zeros_most groups zero within zeros = omega arith
 zeros_most [] (suc n) within zeros = absurd (omega (arith, within))
 zeros_most (g ∷ groups) (suc n) within zeros =
     let is_zero : g ≡ 0 = zeros 0 (omega arith) in
-    let more = zeros_most groups n (omega (arith, within)) (λ position below. zeros (suc position) (omega (arith, below))) in
+    let more = zeros_most groups n (omega (arith, within))
+    (λ position below. zeros (suc position) (omega (arith, below))) in
     rw is_zero (omega (arith, more))
 
 -- ---- the run that begins at a group
@@ -48,12 +48,14 @@ run_there groups start within = record {
     zero_at position from below =
         let k : ℕ = position - start in
         let e : start + k ≡ position = omega (arith, from) in
-        ap (λ p. get_or groups p 0) (sym e) ∙ sym (get_or-drop start groups k 0) ∙ zeros_are (drop start groups) k (omega (arith, below, from))
+        ap (λ p. get_or groups p 0) (sym e) ∙ sym (get_or-drop start groups k 0)
+        ∙ zeros_are (drop start groups) k (omega (arith, below, from))
 
 run_most : (groups : List ℕ) (start n : ℕ) → IsZeroRun groups start n → n ≤ run_at groups start
 run_most groups start n run =
     zeros_most (drop start groups) n (omega (arith, run.there, length-drop start groups))
-    (λ position below. get_or-drop start groups position 0 ∙ run.zero_groups (start + position) (omega arith) (omega (arith, below)))
+    (λ position below. get_or-drop start groups position 0
+    ∙ run.zero_groups (start + position) (omega arith) (omega (arith, below)))
 
 -- ---- the longest of the runs that begin at the first groups
 
@@ -113,9 +115,6 @@ module _ (groups : List ℕ) (eight : length groups ≡ 8) where
   found : IsLongest groups 8 (gap_among groups 8)
   found = longest_among groups 8 (omega (arith, eight))
 
-  gap_within : (gap_among groups 8).0 + (gap_among groups 8).1 ≤ 8
-  gap_within = omega (arith, found.is_run.there, eight)
-
   none_longer_than : (start n : ℕ) → IsZeroRun groups start n → n ≤ (gap_among groups 8).1
   none_longer_than start n run = elim (cases_lt start 8) [
     | inl below ↦ omega (arith, run_most groups start n run, found.none_longer start below)
@@ -137,13 +136,16 @@ module _ (groups : List ℕ) (eight : length groups ≡ 8) where
 
 -- ---- the groups of a run
 
-all_zeros : (n : ℕ) (groups : List ℕ) → n ≤ length groups → ((position : ℕ) → position < n → get_or groups position 0 ≡ 0) → take n groups ≡ replicate n 0
+all_zeros : (n : ℕ) (groups : List ℕ) → n ≤ length groups
+    → ((position : ℕ) → position < n → get_or groups position 0 ≡ 0) → take n groups ≡ replicate n 0
 all_zeros zero groups within zeros = refl
 all_zeros (suc n) [] within zeros = absurd (omega (arith, within))
 all_zeros (suc n) (g ∷ groups) within zeros =
-    ap₂ (λ x xs. x ∷ xs) (zeros 0 (omega arith)) (all_zeros n groups (omega (arith, within)) (λ position below. zeros (suc position) (omega (arith, below))))
+    ap₂ (λ x xs. x ∷ xs) (zeros 0 (omega arith))
+    (all_zeros n groups (omega (arith, within)) (λ position below. zeros (suc position) (omega (arith, below))))
 
 pub run_is_zeros : (groups : List ℕ) (i n : ℕ) → IsZeroRun groups i n → take n (drop i groups) ≡ replicate n 0
 run_is_zeros groups i n run =
     all_zeros n (drop i groups) (omega (arith, run.there, length-drop i groups))
-    (λ position below. get_or-drop i groups position 0 ∙ run.zero_groups (i + position) (omega arith) (omega (arith, below)))
+    (λ position below. get_or-drop i groups position 0
+    ∙ run.zero_groups (i + position) (omega arith) (omega (arith, below)))

@@ -1,8 +1,5 @@
 -- One scan over the groups finds the leftmost of the longest runs of zeros.
-use Rattle.std.proofs.Common.{◌≡◌, ◌≢◌, ℕ, ◌+◌, ◌-◌, ◌<◌, ◌≤◌, List, length, get_or, arith, inl, inr}
-use Rattle.std.proofs.lemmas.Bool.{cases_eq, cases_lt}
-use Rattle.ipnetwork_addr.specs.Ipv6Canonical.{IsZeroRun}
-use Rattle.ipnetwork_addr.specs.Private.LongestRun.{IsLongestRun}
+use Rattle.ipnetwork_addr.proofs.Words.{◌≡◌, ◌≢◌, ℕ, ◌+◌, ◌-◌, ◌<◌, ◌≤◌, List, length, get_or, arith, inl, inr, cases_eq, cases_lt, IsZeroRun, IsLongestRun}
 
 -- after the groups before `position` are scanned: the run that ends there begins at `start`, and the longest run has n
 -- groups from index i on
@@ -14,17 +11,6 @@ pub record Scanned (groups : List ℕ) (position start i n : ℕ) : Type 0 where
   pub zeros : (k : ℕ) → i ≤ k → k < i + n → get_or groups k 0 ≡ 0
   pub longest : (j m : ℕ) → IsZeroRun groups j m → j + m ≤ position → m ≤ n
   pub leftmost : (j : ℕ) → 0 < n → IsZeroRun groups j n → j + n ≤ position → i ≤ j
-
-pub nothing_yet : (groups : List ℕ) → Scanned groups 0 0 0 0
-nothing_yet groups = record {
-  within = omega arith;
-  last = λ k from below. absurd (omega (arith, below));
-  edge = λ j m run ends before. omega (arith, before);
-  ends = omega arith;
-  zeros = λ k from below. absurd (omega (arith, below));
-  longest = λ j m run ends. omega (arith, ends);
-  leftmost = λ j some run ends. absurd (omega (arith, some));
-}
 
 -- a run without its last groups is a run
 shorter : (groups : List ℕ) (j m n : ℕ) → n ≤ m → IsZeroRun groups j m → IsZeroRun groups j n
@@ -72,7 +58,8 @@ module _ (groups : List ℕ) (position start i n : ℕ) (so_far : Scanned groups
 
     edge_longer : (j m : ℕ) → IsZeroRun groups j m → j + m ≡ position + 1 → j < start → ⊥
     edge_longer j m run ends before =
-        so_far.edge j (m - 1) (shorter groups j m (m - 1) (omega arith) run) (omega (arith, ends, before, so_far.within)) before
+        so_far.edge j (m - 1) (shorter groups j m (m - 1) (omega arith) run)
+        (omega (arith, ends, before, so_far.within)) before
 
     -- a run that ends with this group begins no earlier than the last one
     no_earlier : (j m : ℕ) → IsZeroRun groups j m → j + m ≡ position + 1 → start ≤ j
@@ -115,7 +102,8 @@ module _ (groups : List ℕ) (position start i n : ℕ) (so_far : Scanned groups
       ];
     }
 
-pub scanned_all : (groups : List ℕ) (position start i n : ℕ) → length groups ≡ position → Scanned groups position start i n → IsLongestRun groups i n
+pub scanned_all : (groups : List ℕ) (position start i n : ℕ) → length groups ≡ position
+    → Scanned groups position start i n → IsLongestRun groups i n
 scanned_all groups position start i n all scan = record {
   zeros = record { there = omega (arith, scan.ends, all); zero_groups = scan.zeros };
   longest = λ j m run. scan.longest j m run (omega (arith, run.there, all));

@@ -1,26 +1,22 @@
 -- Addresses of a family are compared by their numbers.
-use Rattle.std.proofs.Common.{◌≡◌, ◌≢◌, ◌↔◌, ℕ, ◌-◌, ◌^◌, ◌<◌, ◌≤◌, Bool, true, false, not, ◌==◌, ◌&&◌, IsTrue, Option, Some, ap, sym, refl, subst, ◌∙◌, arith}
-use Rattle.std.proofs.lemmas.Bool.{iff_false, eqb-true, eq-eqb, and_parts, true≢false}
-use Rattle.std.proofs.lemmas.Cmp.{ranked}
-use Rattle.std.specs.Cmp.{unsigned_tied}
-use Rattle.std.specs.Ordering.{nat_cmp, is_eq, is_lt, is_le, is_some_and, partial_lt, partial_le, eq_by_cmp, ordering_then, MatchOrdering}
-use Rattle.std.specs.declared.cmp.Ordering.{Ordering}
-use Rattle.std.specs.declared.cmp.Ordering.TheVariants.{Less, Equal, Greater}
-use Rattle.ipnetwork_family.specs.Network.{Network, network_cmp, mask_of}
+use Rattle.ipnetwork_blocks.proofs.Words.{◌≡◌, ◌≢◌, ◌↔◌, ℕ, ◌-◌, ◌^◌, ◌<◌, ◌≤◌, Bool, true, false, not, ◌==◌, ◌&&◌, IsTrue, Option, Some, ap, sym, refl, subst, ◌∙◌, arith, iff_false, eqb-true, eq-eqb, and_parts, true≢false, ranked, unsigned_tied, nat_cmp, is_eq, is_lt, is_le, is_some_and, partial_lt, partial_le, eq_by_cmp, ordering_then, MatchOrdering, Ordering, Less, Equal, Greater, Network, network_cmp, mask_of}
 
 module _ {A : Type 0} (eq : A → A → Bool) (cmp : A → A → Ordering) (number : A → ℕ) where
-  same_test : ((x y : A) → eq x y ≡ eq_by_cmp cmp x y) → ((x y : A) → cmp x y ≡ nat_cmp (number x) (number y)) → (x y : A)
+  same_test : ((x y : A) → eq x y ≡ eq_by_cmp cmp x y)
+      → ((x y : A) → cmp x y ≡ nat_cmp (number x) (number y)) → (x y : A)
       → eq x y ≡ (number x == number y)
   same_test matches order x y = matches x y ∙ ap is_eq (order x y) ∙ unsigned_tied (number x) (number y)
 
   -- what `!=` returns
-  pub differ_not : ((x y : A) → eq x y ≡ eq_by_cmp cmp x y) → ((x y : A) → cmp x y ≡ nat_cmp (number x) (number y)) → (x y : A) (answer : Bool)
+  pub differ_not : ((x y : A) → eq x y ≡ eq_by_cmp cmp x y) → ((x y : A) → cmp x y ≡ nat_cmp (number x) (number y))
+      → (x y : A) (answer : Bool)
       → answer ≡ not (eq x y) → answer ≡ false → number x ≡ number y
   differ_not matches order x y answer is told =
       let same = same_test matches order x y in
       eqb-true (number x) (number y) (grind (arith, same, is, told))
 
-  pub differ : ((x y : A) → eq x y ≡ eq_by_cmp cmp x y) → ((x y : A) → cmp x y ≡ nat_cmp (number x) (number y)) → (x y : A) (answer : Bool)
+  pub differ : ((x y : A) → eq x y ≡ eq_by_cmp cmp x y) → ((x y : A) → cmp x y ≡ nat_cmp (number x) (number y))
+      → (x y : A) (answer : Bool)
       → answer ≡ not (eq x y) → answer ≡ true → number x ≢ number y
   differ matches order x y answer is told e =
       let same = same_test matches order x y in
@@ -28,7 +24,8 @@ module _ {A : Type 0} (eq : A → A → Bool) (cmp : A → A → Ordering) (numb
       grind (arith, same, is, told, t)
 
   -- what `==` returns
-  pub alike : ((x y : A) → eq x y ≡ eq_by_cmp cmp x y) → ((x y : A) → cmp x y ≡ nat_cmp (number x) (number y)) → (x y : A) (answer : Bool)
+  pub alike : ((x y : A) → eq x y ≡ eq_by_cmp cmp x y) → ((x y : A) → cmp x y ≡ nat_cmp (number x) (number y))
+      → (x y : A) (answer : Bool)
       → answer ≡ eq x y → IsTrue answer ↔ (number x ≡ number y)
   alike matches order x y answer is =
       let same : answer ≡ (number x == number y) = is ∙ same_test matches order x y in
@@ -46,26 +43,30 @@ at_most_told x y Greater h = ((λ t. absurd (true≢false (sym t))), (λ l. absu
 
 module _ {A : Type 0} (partial : A → A → Option Ordering) (cmp : A → A → Ordering) (number : A → ℕ) where
   -- what `<` returns
-  pub less : ((x y : A) → partial x y ≡ Some (cmp x y)) → ((x y : A) → cmp x y ≡ nat_cmp (number x) (number y)) → (x y : A) (answer : Bool)
+  pub less : ((x y : A) → partial x y ≡ Some (cmp x y)) → ((x y : A) → cmp x y ≡ nat_cmp (number x) (number y))
+      → (x y : A) (answer : Bool)
       → answer ≡ partial_lt partial x y → IsTrue answer ↔ (number x < number y)
   less matches order x y answer is =
       subst (λ (b : Bool). IsTrue b ↔ (number x < number y)) (sym (is ∙ ap (is_some_and is_lt) (matches x y)))
       (less_told (number x) (number y) (cmp x y) (ranked (number x) (number y) (cmp x y) (order x y)))
 
-  pub not_less : ((x y : A) → partial x y ≡ Some (cmp x y)) → ((x y : A) → cmp x y ≡ nat_cmp (number x) (number y)) → (x y : A) (answer : Bool)
+  pub not_less : ((x y : A) → partial x y ≡ Some (cmp x y)) → ((x y : A) → cmp x y ≡ nat_cmp (number x) (number y))
+      → (x y : A) (answer : Bool)
       → answer ≡ partial_lt partial x y → answer ≡ false → number y ≤ number x
   not_less matches order x y answer is fails =
       let told : number x < number y → ⊥ = iff_false (less matches order x y answer is) fails in
       omega arith
 
   -- what `<=` returns
-  pub at_most : ((x y : A) → partial x y ≡ Some (cmp x y)) → ((x y : A) → cmp x y ≡ nat_cmp (number x) (number y)) → (x y : A) (answer : Bool)
+  pub at_most : ((x y : A) → partial x y ≡ Some (cmp x y)) → ((x y : A) → cmp x y ≡ nat_cmp (number x) (number y))
+      → (x y : A) (answer : Bool)
       → answer ≡ partial_le partial x y → IsTrue answer ↔ (number x ≤ number y)
   at_most matches order x y answer is =
       subst (λ (b : Bool). IsTrue b ↔ (number x ≤ number y)) (sym (is ∙ ap (is_some_and is_le) (matches x y)))
       (at_most_told (number x) (number y) (cmp x y) (ranked (number x) (number y) (cmp x y) (order x y)))
 
-  pub not_at_most : ((x y : A) → partial x y ≡ Some (cmp x y)) → ((x y : A) → cmp x y ≡ nat_cmp (number x) (number y)) → (x y : A) (answer : Bool)
+  pub not_at_most : ((x y : A) → partial x y ≡ Some (cmp x y)) → ((x y : A) → cmp x y ≡ nat_cmp (number x) (number y))
+      → (x y : A) (answer : Bool)
       → answer ≡ partial_le partial x y → answer ≡ false → number y < number x
   not_at_most matches order x y answer is fails =
       let told : number x ≤ number y → ⊥ = iff_false (at_most matches order x y answer is) fails in
@@ -78,26 +79,31 @@ both_equal Equal p = refl
 both_equal Greater p = refl
 
 module _ {A : Type 0} (eq : A → A → Bool) (cmp : A → A → Ordering) (pair : A → Network) where
-  same_network_test : ((x y : A) → eq x y ≡ eq_by_cmp cmp x y) → ((x y : A) → cmp x y ≡ network_cmp (pair x) (pair y)) → (x y : A)
+  same_network_test : ((x y : A) → eq x y ≡ eq_by_cmp cmp x y)
+      → ((x y : A) → cmp x y ≡ network_cmp (pair x) (pair y)) → (x y : A)
       → eq x y ≡ (((pair x).address == (pair y).address) && ((pair x).prefix == (pair y).prefix))
   same_network_test matches order x y =
       let a : Ordering = nat_cmp (pair x).address (pair y).address in
       let b : Ordering = nat_cmp (pair x).prefix (pair y).prefix in
       matches x y ∙ ap is_eq (order x y) ∙ both_equal a b
-      ∙ ap (λ k. k && is_eq b) (unsigned_tied (pair x).address (pair y).address) ∙ ap (λ k. ((pair x).address == (pair y).address) && k) (unsigned_tied (pair x).prefix (pair y).prefix)
+      ∙ ap (λ k. k && is_eq b) (unsigned_tied (pair x).address (pair y).address)
+      ∙ ap (λ k. ((pair x).address == (pair y).address) && k) (unsigned_tied (pair x).prefix (pair y).prefix)
 
   -- what `==` returns
-  pub same_network : ((x y : A) → eq x y ≡ eq_by_cmp cmp x y) → ((x y : A) → cmp x y ≡ network_cmp (pair x) (pair y)) → (x y : A) (answer : Bool)
+  pub same_network : ((x y : A) → eq x y ≡ eq_by_cmp cmp x y) → ((x y : A) → cmp x y ≡ network_cmp (pair x) (pair y))
+      → (x y : A) (answer : Bool)
       → answer ≡ eq x y → answer ≡ true → pair x ≡ pair y
   same_network matches order x y answer is told =
       let a : Bool = (pair x).address == (pair y).address in
       let b : Bool = (pair x).prefix == (pair y).prefix in
       let both = and_parts a b (sym (same_network_test matches order x y) ∙ sym is ∙ told) in
       let of : ℕ → ℕ → Network = λ address prefix. record { address = address; prefix = prefix } in
-      ap (λ k. of k (pair x).prefix) (eqb-true (pair x).address (pair y).address both.0) ∙ ap (of (pair y).address) (eqb-true (pair x).prefix (pair y).prefix both.1)
+      ap (λ k. of k (pair x).prefix) (eqb-true (pair x).address (pair y).address both.0)
+      ∙ ap (of (pair y).address) (eqb-true (pair x).prefix (pair y).prefix both.1)
 
   -- what `==` returns for networks with the same prefix length
-  pub other_network : ((x y : A) → eq x y ≡ eq_by_cmp cmp x y) → ((x y : A) → cmp x y ≡ network_cmp (pair x) (pair y)) → (x y : A) (answer : Bool)
+  pub other_network : ((x y : A) → eq x y ≡ eq_by_cmp cmp x y) → ((x y : A) → cmp x y ≡ network_cmp (pair x) (pair y))
+      → (x y : A) (answer : Bool)
       → answer ≡ eq x y → answer ≡ false → (pair x).prefix ≡ (pair y).prefix → (pair x).address ≢ (pair y).address
   other_network matches order x y answer is told length at =
       let same = same_network_test matches order x y in

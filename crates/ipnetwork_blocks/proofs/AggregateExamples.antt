@@ -1,14 +1,6 @@
 -- Aggregates that would reveal a misreading of the definitions, over 4-bit addresses.
-use Rattle.std.proofs.Common.{◌≡◌, ℕ, zero, suc, ◌-◌, ◌*◌, ◌/◌, ◌^◌, ◌<◌, refl, ap, arith, ⊎_elim, [], ◌∷◌, length, get_or}
-use Rattle.std.specs.List.{Contains, filter_map}
-use Rattle.ipnetwork_family.specs.Network.{Network, IsCidrBlock, high}
-use Rattle.ipnetwork_family.proofs.Blocks.{subnet_from}
-use Rattle.ipnetwork.specs.declared.ip_network.IpNetwork.TheVariants.{V4, V6}
-use Rattle.ipnetwork_blocks.specs.LeastList.{IsMaximalIn}
-use Rattle.ipnetwork_blocks.specs.Aggregate.{InUnion, IsAggregate}
-use Rattle.ipnetwork_blocks.specs.AggregateIp.{as_v4, as_v6}
-use Rattle.ipnetwork_blocks.specs.Private.Joining.{AreJoined}
-use Rattle.ipnetwork_blocks.proofs.LeastLists.{contains_cons, contains_head, contains_nil}
+use Rattle.ipnetwork_blocks.proofs.Words.{cases_lt, ◌≡◌, ◌≤◌, ℕ, zero, suc, ◌-◌, ◌*◌, ◌/◌, ◌^◌, ◌<◌, refl, ap, sym, subst, arith, ⊎_elim, [], ◌∷◌, length, get_or, Contains, filter_map, Network, IsCidrBlock, Member, high, subnet_from, V4, V6, IsMaximalIn, InUnion, LiesInUnion, SameUnion, IsAggregate, as_v4, as_v6, AreJoined}
+use Rattle.ipnetwork_blocks.proofs.LeastLists.{contains_cons, contains_head, contains_nil, contains_tail}
 use Rattle.ipnetwork_blocks.proofs.AggregateUnions.{union_same, union_skip, union_join, union_cleared}
 use Rattle.ipnetwork_blocks.proofs.AggregateFront.{joined_nil, joined_push}
 use Rattle.ipnetwork_blocks.proofs.AggregateJoined.{joined_is_aggregate}
@@ -38,7 +30,8 @@ single b block = joined_push 4 [] b (joined_nil 4) block (λ i d l. absurd (omeg
 pub halves : IsAggregate 4 (net 0 2 ∷ net 4 2 ∷ []) (net 0 1 ∷ [])
 halves =
     joined_is_aggregate 4 (net 0 2 ∷ net 4 2 ∷ []) (net 0 1 ∷ []) (single (net 0 1) first_half)
-    (union_join 4 [] (net 0 2) (net 4 2) first_quarter second_quarter (omega arith) (refl, omega arith, (omega arith, refl)))
+    (union_join 4 [] (net 0 2) (net 4 2) first_quarter second_quarter (omega arith)
+    (refl, omega arith, (omega arith, refl)))
 
 -- neither half is maximal
 pub half_is_not_maximal : ¬ (IsMaximalIn 4 (InUnion 4 (net 0 2 ∷ net 4 2 ∷ [])) (net 0 2))
@@ -62,7 +55,8 @@ no_halves =
 
 -- host bits are cleared
 pub host_bits : IsAggregate 4 (net 5 2 ∷ []) (net 4 2 ∷ [])
-host_bits = joined_is_aggregate 4 (net 5 2 ∷ []) (net 4 2 ∷ []) (single (net 4 2) second_quarter) (union_cleared 4 (net 5 2 ∷ []))
+host_bits = joined_is_aggregate 4 (net 5 2 ∷ []) (net 4 2 ∷ []) (single (net 4 2) second_quarter)
+    (union_cleared 4 (net 5 2 ∷ []))
 
 -- a network that lies in another is dropped
 pub nested_network : IsAggregate 4 (net 0 1 ∷ net 4 2 ∷ []) (net 0 1 ∷ [])
@@ -76,8 +70,61 @@ pub no_networks : IsAggregate 4 [] []
 no_networks = joined_is_aggregate 4 [] [] (joined_nil 4) (union_same 4 [])
 
 -- the networks of each family keep their order
-pub v4_alone : filter_map as_v4 (V6 (net 1 128) ∷ V4 (net 2 32) ∷ V6 (net 3 128) ∷ V4 (net 1 32) ∷ []) ≡ net 2 32 ∷ net 1 32 ∷ []
+pub v4_alone : filter_map as_v4 (V6 (net 1 128) ∷ V4 (net 2 32) ∷ V6 (net 3 128) ∷ V4 (net 1 32) ∷ []) ≡ net 2 32
+    ∷ net 1 32 ∷ []
 v4_alone = refl
 
-pub v6_alone : filter_map as_v6 (V6 (net 3 128) ∷ V4 (net 2 32) ∷ V6 (net 1 128) ∷ V4 (net 1 32) ∷ []) ≡ net 3 128 ∷ net 1 128 ∷ []
+pub v6_alone : filter_map as_v6 (V6 (net 3 128) ∷ V4 (net 2 32) ∷ V6 (net 1 128) ∷ V4 (net 1 32) ∷ []) ≡ net 3 128
+    ∷ net 1 128 ∷ []
 v6_alone = refl
+
+-- ---- unions
+
+-- a network lies in the union of its halves, though in neither half
+pub half_in_two_quarters : LiesInUnion 4 (net 3 1) (net 0 2 ∷ net 4 2 ∷ [])
+half_in_two_quarters x m =
+    let half : x / 8 ≡ 0 = m.1 in
+    ⊎_elim
+    (λ (lower : x < 4). let first : x / 4 ≡ 0 = omega (arith, lower) in
+    (net 0 2, contains_head (net 0 2) (net 4 2 ∷ []), (m.0, first)))
+    (λ (upper : 4 ≤ x).
+    let second : x / 4 ≡ 1 = omega (arith, half, upper) in
+    (net 4 2, contains_tail (net 0 2) (net 4 2 ∷ []) (net 4 2) (contains_head (net 4 2) []), (m.0, second)))
+    (cases_lt x 4)
+
+in_first_quarter : (x : ℕ) → InUnion 4 (net 0 2 ∷ []) x → Member 4 (net 0 2) x
+in_first_quarter x c =
+    ⊎_elim
+    (λ (e : net 0 2 ≡ c.0). subst (λ (n : Network). Member 4 n x) (sym e) c.2)
+    (λ (none : Contains [] c.0). absurd (contains_nil c.0 none))
+    (contains_cons (net 0 2) [] c.0 c.1)
+
+pub half_not_in_one_quarter : ¬ (LiesInUnion 4 (net 3 1) (net 0 2 ∷ []))
+half_not_in_one_quarter h =
+    let quarter : 1 ≡ 0 = (in_first_quarter 4 (h 4 (omega arith, refl))).1 in
+    omega (arith, quarter)
+
+-- order, repetition and host bits make no difference
+pub same_addresses : SameUnion 4 (net 5 2 ∷ []) (net 4 2 ∷ net 6 2 ∷ [])
+same_addresses x = (
+  (λ c. ⊎_elim
+      (λ (e : net 5 2 ≡ c.0). let m : Member 4 (net 5 2) x = subst (λ (n : Network). Member 4 n x) (sym e) c.2 in
+      (net 4 2, contains_head (net 4 2) (net 6 2 ∷ []), (m.0, m.1)))
+      (λ (none : Contains [] c.0). absurd (contains_nil c.0 none))
+      (contains_cons (net 5 2) [] c.0 c.1)),
+  (λ c. ⊎_elim
+      (λ (e : net 4 2 ≡ c.0). let m : Member 4 (net 4 2) x = subst (λ (n : Network). Member 4 n x) (sym e) c.2 in
+      (net 5 2, contains_head (net 5 2) [], (m.0, m.1)))
+      (λ (d : Contains (net 6 2 ∷ []) c.0). ⊎_elim
+      (λ (e : net 6 2 ≡ c.0). let m : Member 4 (net 6 2) x = subst (λ (n : Network). Member 4 n x) (sym e) c.2 in
+      (net 5 2, contains_head (net 5 2) [], (m.0, m.1)))
+      (λ (none : Contains [] c.0). absurd (contains_nil c.0 none))
+      (contains_cons (net 6 2) [] c.0 d))
+      (contains_cons (net 4 2) (net 6 2 ∷ []) c.0 c.1)),
+)
+
+pub other_addresses : ¬ (SameUnion 4 (net 0 1 ∷ []) (net 0 2 ∷ []))
+other_addresses same =
+    let quarter : 1 ≡ 0 = (in_first_quarter 4 ((same 4).0 (net 0 1, contains_head (net 0 1) [], (omega arith, refl)))).1
+    in
+    omega (arith, quarter)

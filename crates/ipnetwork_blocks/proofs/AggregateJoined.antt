@@ -1,21 +1,12 @@
 -- If no two blocks of a list can be joined, they are the maximal blocks of their union.
-use Rattle.std.proofs.Common.{◌≡◌, ℕ, zero, suc, ◌+◌, ◌-◌, ◌*◌, ◌/◌, ◌^◌, ◌<◌, ◌≤◌, ◌⊎◌, sym, refl, ap, subst, ◌∙◌, arith, ⊎_elim, List, get_or}
-use Rattle.std.proofs.lemmas.Bool.{cases_lt}
-use Rattle.std.specs.List.{Contains}
-use Rattle.std.proofs.lemmas.List.Elements.{All-contains}
-use Rattle.ipnetwork_family.specs.Network.{Network, IsNetwork, IsCidrBlock, Member, low, block_size, block_at, Subnet}
-use Rattle.ipnetwork_family.proofs.Blocks.{size_pos, within_member, member_within, subnet_from, subnet_prefix, shares_address, multiple_begins, block_begins, block_same_set}
-use Rattle.ipnetwork_family.proofs.BlocksAt.{block_at_network, block_at_holds, block_at_subnet, same_block}
-use Rattle.ipnetwork_blocks.specs.Supernets.{parent}
-use Rattle.ipnetwork_blocks.specs.Private.Joining.{AreHalves, Follows, AreJoined}
-use Rattle.ipnetwork_blocks.specs.LeastList.{IsMaximalIn}
-use Rattle.ipnetwork_blocks.specs.Aggregate.{InUnion, LiesInUnion, SameUnion, IsAggregate}
+use Rattle.ipnetwork_blocks.proofs.Words.{◌≡◌, ℕ, zero, suc, ◌+◌, ◌-◌, ◌*◌, ◌/◌, ◌^◌, ◌<◌, ◌≤◌, ◌⊎◌, sym, refl, ap, subst, ◌∙◌, arith, ⊎_elim, List, get_or, cases_lt, Contains, All-contains, Network, IsNetwork, IsCidrBlock, Member, low, block_size, block_at, Subnet, size_pos, within_member, member_within, subnet_from, subnet_prefix, shares_address, multiple_begins, block_begins, block_same_set, block_at_network, block_at_holds, block_at_subnet, same_block, parent, AreHalves, Follows, AreJoined, IsMaximalIn, InUnion, LiesInUnion, SameUnion, IsAggregate}
 use Rattle.ipnetwork_blocks.proofs.AggregateLists.{pairs_contains}
 use Rattle.ipnetwork_blocks.proofs.LeastLists.{least_of_same}
 use Rattle.ipnetwork_blocks.proofs.HalfBlocks.{size_half}
 
 -- two blocks of a joined list that share an address are the same
-pub joined_apart : (w : ℕ) (r : List Network) → AreJoined w r → (a b : Network) → Contains r a → Contains r b → (x : ℕ) → Member w a x → Member w b x → a ≡ b
+pub joined_apart : (w : ℕ) (r : List Network) → AreJoined w r → (a b : Network) → Contains r a → Contains r b → (x : ℕ)
+    → Member w a x → Member w b x → a ≡ b
 joined_apart w r h a b ca cb x ma mb =
     let ba : IsCidrBlock w a = All-contains (IsCidrBlock w) r a h.blocks ca in
     let bb : IsCidrBlock w b = All-contains (IsCidrBlock w) r b h.blocks cb in
@@ -30,7 +21,8 @@ joined_apart w r h a b ca cb x ma mb =
 
 -- if the halves of a block lie in two blocks of the list, the whole block lies in one of the two: otherwise these two
 -- would be the halves
-halves_joined : (w : ℕ) (r : List Network) → AreJoined w r → (x p : ℕ) → p < w → x < 2 ^ w → (a b : Network) → Contains r a → Contains r b
+halves_joined : (w : ℕ) (r : List Network) → AreJoined w r → (x p : ℕ) → p < w → x < 2 ^ w → (a b : Network)
+    → Contains r a → Contains r b
     → Subnet w (block_at w (x / block_size w p * block_size w p) (p + 1)) a
     → Subnet w (block_at w (x / block_size w p * block_size w p + block_size w (p + 1)) (p + 1)) b
     → (n : Network) × Contains r n × Subnet w (block_at w x p) n
@@ -56,28 +48,37 @@ halves_joined w r h x p lt l a b ca cb sa sb =
     ⊎_elim
     (λ (wide : a.prefix < p + 1). (a, ca, subnet_from w d a dn (omega arith) a0))
     (λ (na : p + 1 ≤ a.prefix). ⊎_elim
-    (λ (wide : b.prefix < p + 1). (b, cb, subnet_from w d b dn (omega arith) (shares_address w d b x1 (omega arith) dn bb.network m1 b1)))
+    (λ (wide : b.prefix < p + 1).
+    (b, cb, subnet_from w d b dn (omega arith) (shares_address w d b x1 (omega arith) dn bb.network m1 b1)))
     (λ (nb : p + 1 ≤ b.prefix).
-    let ka = subnet_prefix w (block_at w x0 (p + 1)) a ((block_at_network w x0 (p + 1) m0.0 (omega arith)).network) ba.network sa in
-    let kb = subnet_prefix w (block_at w x1 (p + 1)) b ((block_at_network w x1 (p + 1) m1.0 (omega arith)).network) bb.network sb in
+    let ka = subnet_prefix w (block_at w x0 (p + 1)) a ((block_at_network w x0 (p + 1) m0.0 (omega arith)).network)
+    ba.network sa in
+    let kb = subnet_prefix w (block_at w x1 (p + 1)) b ((block_at_network w x1 (p + 1) m1.0 (omega arith)).network)
+    bb.network sb in
     let pa : a.prefix ≡ p + 1 = omega arith in
     let pb : b.prefix ≡ p + 1 = omega arith in
-    let ea : a ≡ block_at w x0 (p + 1) = same_block w a (block_at w x0 (p + 1)) ba.block (block_begins w (record { address = x0; prefix = p + 1 })) pa x0 a0 h0 in
-    let eb : b ≡ block_at w x1 (p + 1) = same_block w b (block_at w x1 (p + 1)) bb.block (block_begins w (record { address = x1; prefix = p + 1 })) pb x1 b1 h1 in
+    let ea : a ≡ block_at w x0 (p + 1) = same_block w a (block_at w x0 (p + 1)) ba.block
+    (block_begins w (record { address = x0; prefix = p + 1 })) pa x0 a0 h0 in
+    let eb : b ≡ block_at w x1 (p + 1) = same_block w b (block_at w x1 (p + 1)) bb.block
+    (block_begins w (record { address = x1; prefix = p + 1 })) pb x1 b1 h1 in
     let e0 : x0 ≡ q * 2 * s = ap (λ z. q * z) half ∙ (omega arith) in
     let e1 : x1 ≡ (q * 2 + 1) * s = ap (λ z. z + s) e0 ∙ (omega arith) in
-    let aa : a.address ≡ x0 = ap (λ n. n.address) ea ∙ ap (λ z. z / s * s) e0 ∙ multiple_begins s (q * 2) s_pos ∙ sym e0 in
-    let ab : b.address ≡ x1 = ap (λ n. n.address) eb ∙ ap (λ z. z / s * s) e1 ∙ multiple_begins s (q * 2 + 1) s_pos ∙ sym e1 in
+    let aa : a.address ≡ x0 = ap (λ n. n.address) ea ∙ ap (λ z. z / s * s) e0
+    ∙ multiple_begins s (q * 2) s_pos ∙ sym e0 in
+    let ab : b.address ≡ x1 = ap (λ n. n.address) eb ∙ ap (λ z. z / s * s) e1
+    ∙ multiple_begins s (q * 2 + 1) s_pos ∙ sym e1 in
     let base : Member w (block_at w x0 p) x1 = (block_same_set w (record { address = x0; prefix = p }) x1).1 m1 in
     let M : ℕ → ℕ → ℕ → Type 0 = λ u v z. Member w (block_at w u v) z in
     let pm : a.prefix - 1 ≡ p = omega arith in
     let held : Member w (parent w a) b.address =
-    subst (λ u. M u (a.prefix - 1) b.address) (sym aa) (subst (λ v. M x0 v b.address) (sym pm) (subst (λ z. M x0 p z) (sym ab) base)) in
+    subst (λ u. M u (a.prefix - 1) b.address) (sym aa)
+    (subst (λ v. M x0 v b.address) (sym pm) (subst (λ z. M x0 p z) (sym ab) base)) in
     let r : Goal = not_both w r h a b ca cb (omega arith) (pa ∙ sym pb, omega arith, held) in r)
     (cases_lt b.prefix (p + 1)))
     (cases_lt a.prefix (p + 1))
   where
-    not_both : {G : Type 0} (w : ℕ) (r : List Network) → AreJoined w r → (a b : Network) → Contains r a → Contains r b → a.address < b.address → AreHalves w a b → G
+    not_both : {G : Type 0} (w : ℕ) (r : List Network) → AreJoined w r → (a b : Network) → Contains r a → Contains r b
+        → a.address < b.address → AreHalves w a b → G
     not_both {G} w r h a b ca cb l s =
         let bb : IsCidrBlock w b = All-contains (IsCidrBlock w) r b h.blocks cb in
         ⊎_elim (λ (e : a ≡ b). let same : a.address ≡ b.address = ap (λ n. n.address) e in absurd (omega arith))
@@ -88,7 +89,8 @@ halves_joined w r h x p lt l a b ca cb sa sb =
 
 -- a block that lies in the union lies in one block of the list: this holds for one address, and for a block if it holds
 -- for its halves
-pub block_in_one : (w : ℕ) (r : List Network) → AreJoined w r → (k x p : ℕ) → p + k ≡ w → x < 2 ^ w → LiesInUnion w (block_at w x p) r
+pub block_in_one : (w : ℕ) (r : List Network) → AreJoined w r → (k x p : ℕ) → p + k ≡ w → x < 2 ^ w
+    → LiesInUnion w (block_at w x p) r
     → (n : Network) × Contains r n × Subnet w (block_at w x p) n
 block_in_one w r h zero x p e l within =
     let c = within x (block_at_holds w x p l) in
@@ -112,7 +114,8 @@ block_in_one w r h (suc k) x p e l within =
     halves_joined w r h x p (omega arith) l c0.0 c1.0 c0.1 c1.1 c0.2 c1.2
 
 -- the same for any network
-pub network_in_one : (w : ℕ) (r : List Network) → AreJoined w r → (c : Network) → IsNetwork w c → LiesInUnion w c r → (n : Network) × Contains r n × Subnet w c n
+pub network_in_one : (w : ℕ) (r : List Network) → AreJoined w r → (c : Network) → IsNetwork w c → LiesInUnion w c r
+    → (n : Network) × Contains r n × Subnet w c n
 network_in_one w r h c cn within =
     let own : Member w c c.address = (cn.address_fits, refl) in
     let fits = cn.prefix_fits in
@@ -121,7 +124,8 @@ network_in_one w r h c cn within =
     (o.0, o.1, λ y m. o.2 y ((block_same_set w c y).1 m))
 
 -- the blocks of a joined list are the maximal blocks of its union
-joined_is_maximal : (w : ℕ) (r : List Network) → AreJoined w r → (b : Network) → Contains r b → IsMaximalIn w (InUnion w r) b
+joined_is_maximal : (w : ℕ) (r : List Network) → AreJoined w r → (b : Network) → Contains r b
+    → IsMaximalIn w (InUnion w r) b
 joined_is_maximal w r h b cb =
     let bb : IsCidrBlock w b = All-contains (IsCidrBlock w) r b h.blocks cb in
     record {
@@ -136,14 +140,16 @@ joined_is_maximal w r h b cb =
           absurd (omega (arith, subnet_prefix w c b cn bb.network inside, lt));
     }
 
-maximal_is_joined : (w : ℕ) (r : List Network) → AreJoined w r → (b : Network) → IsMaximalIn w (InUnion w r) b → Contains r b
+maximal_is_joined : (w : ℕ) (r : List Network) → AreJoined w r → (b : Network) → IsMaximalIn w (InUnion w r) b
+    → Contains r b
 maximal_is_joined w r h b m =
     let o = network_in_one w r h b m.network m.lies in
     let n : Network = o.0 in
     let bn : IsCidrBlock w n = All-contains (IsCidrBlock w) r n h.blocks o.1 in
     let own : Member w b b.address = (m.network.address_fits, refl) in
     ⊎_elim
-    (λ (wide : n.prefix < b.prefix). let r : Contains r b = absurd (m.maximal n bn.network wide o.2 (λ x k. (n, o.1, k))) in r)
+    (λ (wide : n.prefix < b.prefix).
+    let r : Contains r b = absurd (m.maximal n bn.network wide o.2 (λ x k. (n, o.1, k))) in r)
     (λ (le : b.prefix ≤ n.prefix).
     let ge = subnet_prefix w b n m.network bn.network o.2 in
     let same : n ≡ b = same_block w n b bn.block m.block (omega arith) b.address (o.2 b.address own) own in

@@ -1,14 +1,6 @@
 -- The laws of aggregation. Most are those of least lists, for the union of the networks.
-use Rattle.std.proofs.Common.{◌≡◌, ℕ, ◌<◌, ◌≤◌, ◌⊎◌, inl, inr, sym, refl, subst, ⊎_elim, List, [], ◌∷◌}
-use Rattle.std.proofs.lemmas.Bool.{cases_lt}
-use Rattle.std.specs.List.{Contains}
-use Rattle.ipnetwork_family.specs.Network.{Network, Member, Subnet}
-use Rattle.ipnetwork_family.proofs.Blocks.{subnet_from, nested}
-use Rattle.ipnetwork_blocks.specs.LeastList.{IsMaximalIn}
-use Rattle.ipnetwork_blocks.specs.LeastListLaws.{IsShortest}
-use Rattle.ipnetwork_blocks.specs.Aggregate.{InUnion, SameUnion, IsAggregate}
-use Rattle.ipnetwork_blocks.specs.AggregateLaws.{AggregateHasUnion, AggregateIsApart, AggregateHasOneBlock, AggregateHasNetworks, AggregateBlocksAreNeeded, AggregateIsLeast, AggregateIsOfUnion, AggregateIsItsOwn}
-use Rattle.ipnetwork_blocks.proofs.LeastLists.{contains_cons, contains_head, contains_tail, contains_nil, maximal_apart, least_of_same, least_unique}
+use Rattle.ipnetwork_blocks.proofs.Words.{◌≡◌, ℕ, ◌<◌, ◌≤◌, ◌⊎◌, inl, inr, sym, refl, subst, ⊎_elim, List, [], ◌∷◌, cases_lt, Contains, Network, Member, Subnet, subnet_from, nested, IsMaximalIn, IsShortest, InUnion, IsAggregate, AggregateHasUnion, AggregateIsApart, AggregateHasOneBlock, AggregateHasNetworks, AggregateBlocksAreNeeded, AggregateIsLeast}
+use Rattle.ipnetwork_blocks.proofs.LeastLists.{contains_cons, contains_head, contains_tail, contains_nil, maximal_apart}
 use Rattle.ipnetwork_blocks.proofs.MaximalBlocks.{in_a_maximal, holds_one, is_shortest, member_or_not}
 
 -- every address either lies in a union or does not
@@ -37,7 +29,8 @@ pub aggregate_is_least : AggregateIsLeast
 aggregate_is_least w ns r ms h hm same = (aggregate_is_shortest w ns r h).shortest ms hm same
 
 pub aggregate_has_one_block : AggregateHasOneBlock
-aggregate_has_one_block w ns r a b x h ca cb ma mb = maximal_apart w (InUnion w ns) a b ((h.maximal a).0 ca) ((h.maximal b).0 cb) x ma mb
+aggregate_has_one_block w ns r a b x h ca cb ma mb =
+    maximal_apart w (InUnion w ns) a b ((h.maximal a).0 ca) ((h.maximal b).0 cb) x ma mb
 
 pub blocks_are_needed : AggregateBlocksAreNeeded
 blocks_are_needed w ns r ms h hm same b c = holds_one w (InUnion w ns) ms b hm same ((h.maximal b).0 c)
@@ -58,17 +51,3 @@ aggregate_has_networks w ns r h c cn = (
       (b, (h.maximal b).1 m, sub)),
   (λ o. λ x m. ((h.maximal o.0).0 o.1).lies x (o.2 x m)),
 )
-
-pub aggregate_is_of_union : AggregateIsOfUnion
-aggregate_is_of_union w ns ms r s h k = (
-  (λ (same : SameUnion w ns ms). least_unique w (InUnion w ms) r s (least_of_same w (InUnion w ns) (InUnion w ms) r same h) k),
-  (λ (e : r ≡ s). λ x.
-      let u = aggregate_has_union w ns r h x in
-      let v = aggregate_has_union w ms s k x in (
-        (λ c. v.0 (subst (λ (l : List Network). InUnion w l x) e (u.1 c))),
-        (λ c. u.0 (subst (λ (l : List Network). InUnion w l x) (sym e) (v.1 c))),
-      )),
-)
-
-pub aggregate_is_its_own : AggregateIsItsOwn
-aggregate_is_its_own w ns r s h k = (aggregate_is_of_union w ns r r s h k).0 (λ x. let same = aggregate_has_union w ns r h x in (same.1, same.0))

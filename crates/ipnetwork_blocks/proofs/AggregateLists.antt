@@ -1,13 +1,13 @@
 -- Facts about all pairs of a list.
-use Rattle.std.proofs.Common.{◌≡◌, ℕ, ◌<◌, ◌⊎◌, inl, inr, sym, ap, subst, ◌∙◌, arith, ⊎_elim, List, length, get_or, take}
-use Rattle.std.specs.List.{AllPairs, Contains}
-use Rattle.std.proofs.lemmas.Bool.{cases_order}
-use Rattle.std.proofs.lemmas.List.{get_or_default, get_or-take, length-take}
+use Rattle.ipnetwork_blocks.proofs.Words.{◌≡◌, ℕ, ◌<◌, ◌⊎◌, inl, inr, sym, ap, subst, ◌∙◌, arith, ⊎_elim, List, length, get_or, take, AllPairs, Contains, cases_order, get_or_default, get_or-take, length-take}
 
-pub pairs_contains : {X : Type 0} (R : X → X → Type 0) (xs : List X) (a b : X) → AllPairs R xs → Contains xs a → Contains xs b → (a ≡ b) ⊎ (R a b ⊎ R b a)
+pub pairs_contains : {X : Type 0} (R : X → X → Type 0) (xs : List X) (a b : X) → AllPairs R xs → Contains xs a
+    → Contains xs b → (a ≡ b) ⊎ (R a b ⊎ R b a)
 pairs_contains {X} R xs a b h c d =
-    let at : (i j : ℕ) (x y : X) → i < j → i < length xs → j < length xs → get_or xs i x ≡ x → get_or xs j y ≡ y → R x y =
-    λ i j x y l li lj ei ej. subst (λ (u : X). R u y) ei (subst (λ (v : X). R (get_or xs i x) v) (get_or_default xs j x y lj ∙ ej) (h i j x l lj)) in
+    let at : (i j : ℕ) (x y : X) → i < j → i < length xs → j < length xs → get_or xs i x ≡ x
+    → get_or xs j y ≡ y → R x y =
+    λ i j x y l li lj ei ej. subst (λ (u : X). R u y) ei
+    (subst (λ (v : X). R (get_or xs i x) v) (get_or_default xs j x y lj ∙ ej) (h i j x l lj)) in
     ⊎_elim
     (λ (e : c.0 ≡ d.0). inl (sym c.2 ∙ get_or_default xs c.0 a b c.1 ∙ ap (λ k. get_or xs k b) e ∙ d.2))
     (λ (o : (c.0 < d.0) ⊎ (d.0 < c.0)). ⊎_elim

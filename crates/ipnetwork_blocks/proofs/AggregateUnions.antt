@@ -1,18 +1,9 @@
 -- Unions of a list with one more network, of two halves and their block, and of networks without their host bits.
-use Rattle.std.proofs.Common.{◌≡◌, ◌↔◌, ℕ, ◌<◌, ◌⊎◌, inl, inr, sym, ap, subst, ◌∙◌, arith, ⊎_elim, List, [], ◌∷◌, ◌++◌, length, get_or, map}
-use Rattle.std.specs.List.{Contains}
-use Rattle.std.specs.List.Sorted.{IsPermutation}
-use Rattle.std.proofs.lemmas.List.Sorted.{IsPermutation-sym, Contains-permutation}
-use Rattle.std.proofs.lemmas.List.{get_or-map, length-map}
-use Rattle.std.proofs.lemmas.List.Elements.{Contains-append_left, Contains-push, Contains-push_cases, Contains-get_or}
-use Rattle.ipnetwork_family.specs.Network.{Network, IsCidrBlock, Member, high, block_of, Subnet}
-use Rattle.ipnetwork_family.proofs.Blocks.{block_same_set}
-use Rattle.ipnetwork_blocks.specs.Aggregate.{InUnion, SameUnion}
-use Rattle.ipnetwork_blocks.specs.Supernets.{parent}
-use Rattle.ipnetwork_blocks.specs.Private.Joining.{AreHalves}
+use Rattle.ipnetwork_blocks.proofs.Words.{◌≡◌, ◌↔◌, ℕ, ◌<◌, ◌⊎◌, inl, inr, sym, ap, subst, ◌∙◌, arith, ⊎_elim, List, [], ◌∷◌, ◌++◌, length, get_or, map, Contains, IsPermutation, IsPermutation-sym, Contains-permutation, get_or-map, length-map, Contains-append_left, Contains-push, Contains-push_cases, Contains-get_or, Network, IsCidrBlock, Member, high, block_of, Subnet, block_same_set, InUnion, SameUnion, parent, AreHalves, Contains-append_right, Contains-append_cases}
 use Rattle.ipnetwork_blocks.proofs.HalfBlocks.{halves_join}
 
-pub in_union_push : (w : ℕ) (r : List Network) (b : Network) (x : ℕ) → InUnion w (r ++ b ∷ []) x ↔ (InUnion w r x ⊎ Member w b x)
+pub in_union_push : (w : ℕ) (r : List Network) (b : Network) (x : ℕ)
+    → InUnion w (r ++ b ∷ []) x ↔ (InUnion w r x ⊎ Member w b x)
 in_union_push w r b x = (
   (λ c. ⊎_elim
       (λ (d : Contains r c.0). inl (c.0, d, c.2))
@@ -32,7 +23,8 @@ union_trans w r s t h k x = ((λ c. (k x).0 ((h x).0 c)), (λ c. (h x).1 ((k x).
 pub union_push : (w : ℕ) (r s : List Network) (b : Network) → SameUnion w r s → SameUnion w (r ++ b ∷ []) (s ++ b ∷ [])
 union_push w r s b h x = (one w r s b h x, one w s r b (λ y. ((h y).1, (h y).0)) x)
   where
-    one : (w : ℕ) (r s : List Network) (b : Network) → SameUnion w r s → (x : ℕ) → InUnion w (r ++ b ∷ []) x → InUnion w (s ++ b ∷ []) x
+    one : (w : ℕ) (r s : List Network) (b : Network) → SameUnion w r s → (x : ℕ) → InUnion w (r ++ b ∷ []) x
+        → InUnion w (s ++ b ∷ []) x
     one w r s b h x c = (in_union_push w s b x).1 (⊎_elim
         (λ (d : InUnion w r x). inl ((h x).0 d))
         (λ (m : Member w b x). inr m) ((in_union_push w r b x).0 c))
@@ -45,7 +37,8 @@ union_skip w r b n c s x = (
 )
 
 -- two halves at the end of a list can be replaced by their block
-pub union_join : (w : ℕ) (r : List Network) (t b : Network) → IsCidrBlock w t → IsCidrBlock w b → high w t < b.address → AreHalves w t b
+pub union_join : (w : ℕ) (r : List Network) (t b : Network) → IsCidrBlock w t → IsCidrBlock w b → high w t < b.address
+    → AreHalves w t b
     → SameUnion w (r ++ parent w t ∷ []) ((r ++ t ∷ []) ++ b ∷ [])
 union_join w r t b ht hb l s x =
     let j = (halves_join w t b ht hb l s).1 x in (
@@ -77,12 +70,24 @@ union_cleared w ns x = (
       let k : ℕ = c.1.0 in
       let n : Network = c.0 in
       let size = length-map ns (block_of w) in
-      let fits : k < length (map (block_of w) ns) = let l = c.1.1 in omega arith in
-      (block_of w n, (k, fits, get_or-map (block_of w) ns k n (block_of w n) c.1.1 ∙ ap (block_of w) c.1.2), (block_same_set w n x).1 c.2)),
+      let fits : k < length (map (block_of w) ns) = let l = c.1.1 in omega arith in (
+        block_of w n,
+        (k, fits, get_or-map (block_of w) ns k n (block_of w n) c.1.1 ∙ ap (block_of w) c.1.2),
+        (block_same_set w n x).1 c.2,
+      )),
 )
 
 pub union_permutation : (w : ℕ) (xs ys : List Network) → IsPermutation xs ys → SameUnion w ys xs
 union_permutation w xs ys p x = (
   (λ c. (c.0, Contains-permutation ys xs c.0 (IsPermutation-sym xs ys p) c.1, c.2)),
   (λ c. (c.0, Contains-permutation xs ys c.0 p c.1, c.2)),
+)
+
+pub union_append : (w : ℕ) (a b : List Network) (x : ℕ) → InUnion w (a ++ b) x ↔ (InUnion w a x ⊎ InUnion w b x)
+union_append w a b x = (
+  (λ c. ⊎_elim (λ (d : Contains a c.0). inl (c.0, d, c.2)) (λ (d : Contains b c.0). inr (c.0, d, c.2))
+      (Contains-append_cases a b c.0 c.1)),
+  (λ p. ⊎_elim
+      (λ (c : InUnion w a x). (c.0, Contains-append_left a b c.0 c.1, c.2))
+      (λ (c : InUnion w b x). (c.0, Contains-append_right a b c.0 c.1, c.2)) p),
 )

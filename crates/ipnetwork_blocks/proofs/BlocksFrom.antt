@@ -1,8 +1,5 @@
 -- The block with a given number of host bits that begins at a given address.
-use Rattle.std.proofs.Common.{◌≡◌, ℕ, suc, ◌+◌, ◌-◌, ◌*◌, ◌/◌, ◌^◌, ◌<◌, ◌≤◌, sym, ap, ◌∙◌, arith}
-use Rattle.std.proofs.lemmas.Nat.{pow_pos, pow-add}
-use Rattle.ipnetwork_family.specs.Network.{Network, IsNetwork, Member, block_size, HostBitsAreZero}
-use Rattle.ipnetwork_family.proofs.Blocks.{size_pos, within_member, member_within, multiple_begins}
+use Rattle.ipnetwork_blocks.proofs.Words.{◌≡◌, ℕ, suc, ◌+◌, ◌-◌, ◌*◌, ◌/◌, ◌^◌, ◌<◌, ◌≤◌, sym, ap, ◌∙◌, arith, pow_pos, pow-add, Network, IsNetwork, Member, block_size, HostBitsAreZero, size_pos, within_member, member_within, multiple_begins}
 
 -- the block with k host bits that begins at base
 
@@ -48,7 +45,8 @@ twice k = let e : suc k ≡ k + 1 = omega arith in ap (λ j. 2 ^ j) e ∙ pow-ad
 pub lower_begins : (w k base : ℕ) → Begins w (suc k) base → Begins w k base
 lower_begins w k base h = record {
   times = h.times * 2;
-  multiple = let t = h.times in let m : base ≡ t * (2 ^ k + 2 ^ k) = h.multiple ∙ ap (λ z. t * z) (twice k) in m ∙ (omega arith);
+  multiple = let t = h.times in let m : base ≡ t * (2 ^ k + 2 ^ k) = h.multiple ∙ ap (λ z. t * z) (twice k) in m
+      ∙ (omega arith);
   bits = let b = h.bits in omega arith;
   fits = omega (arith, h.fits, twice k);
 }

@@ -1,16 +1,10 @@
 -- The addresses of one network that are not in another: those before the other network, and those after it.
-use Rattle.std.proofs.Common.{◌≡◌, ◌↔◌, ℕ, ◌+◌, ◌^◌, ◌<◌, ◌≤◌, ◌⊎◌, inl, inr, arith, ⊎_elim, List, [], ◌++◌}
-use Rattle.std.proofs.lemmas.Bool.{cases_lt}
-use Rattle.ipnetwork_family.specs.Network.{Network, IsNetwork, Member, Overlap, low, high}
-use Rattle.ipnetwork_family.proofs.Blocks.{size_pos, has_ends, within_member, member_within}
-use Rattle.ipnetwork_blocks.specs.LeastList.{IsLeastList}
-use Rattle.ipnetwork_blocks.specs.Ranges.{FromTo}
-use Rattle.ipnetwork_blocks.specs.Exclusion.{InDifference}
-use Rattle.ipnetwork_blocks.specs.Private.Sides.{Before, Behind}
+use Rattle.ipnetwork_blocks.proofs.Words.{◌≡◌, ◌↔◌, ℕ, ◌+◌, ◌^◌, ◌<◌, ◌≤◌, ◌⊎◌, inl, inr, arith, ⊎_elim, List, [], ◌++◌, cases_lt, Network, IsNetwork, Member, Overlap, low, high, size_pos, has_ends, within_member, member_within, IsLeastList, FromTo, InDifference, Before, Behind}
 use Rattle.ipnetwork_blocks.proofs.LeastLists.{least_of_same, least_of_none, least_of_two}
 
 -- networks that share no address
-pub least_apart : (w first last : ℕ) (n i : Network) (r : List Network) → IsNetwork w n → ¬ (Overlap w n i) → first ≡ low w n → last ≡ high w n
+pub least_apart : (w first last : ℕ) (n i : Network) (r : List Network) → IsNetwork w n → ¬ (Overlap w n i)
+    → first ≡ low w n → last ≡ high w n
     → IsLeastList w (FromTo first last) r → IsLeastList w (InDifference w n i) r
 least_apart w first last n i r nn apart from to h =
     let pos = size_pos w n.prefix in
@@ -26,8 +20,10 @@ least_apart w first last n i r nn apart from to h =
     h
 
 -- networks that share an address
-pub least_around : {w : ℕ} {n i : Network} {r s : List Network} (first last : ℕ) → IsNetwork w n → IsNetwork w i → Overlap w n i → first ≡ low w n → last ≡ high w n
-    → IsLeastList w (Before w first i) r → IsLeastList w (Behind w i last) s → IsLeastList w (InDifference w n i) (r ++ s)
+pub least_around : {w : ℕ} {n i : Network} {r s : List Network} (first last : ℕ) → IsNetwork w n → IsNetwork w i
+    → Overlap w n i → first ≡ low w n → last ≡ high w n
+    → IsLeastList w (Before w first i) r → IsLeastList w (Behind w i last) s
+    → IsLeastList w (InDifference w n i) (r ++ s)
 least_around {w} {n} {i} {r} {s} first last nn ni o from to h k =
     let shared_n = (has_ends w n nn).within o.0 o.1 in
     let shared_i = (has_ends w i ni).within o.0 o.2 in
@@ -52,12 +48,18 @@ least_around {w} {n} {i} {r} {s} first last nn ni o from to h k =
       (λ q. ⊎_elim
           (λ (p : Before w first i x).
           let e = p.0 in
-          let f = p.1 in
-          (member_within w n nn x (omega arith) (omega arith), λ m. let j = within_member w i x m in let g = j.0 in omega arith))
+          let f = p.1 in (
+            member_within w n nn x (omega arith) (omega arith),
+            λ m. let j = within_member w i x m in let g = j.0 in
+                omega arith,
+          ))
           (λ (p : Behind w i last x).
           let e = p.0 in
-          let f = p.1 in
-          (member_within w n nn x (omega arith) (omega arith), λ m. let j = (has_ends w i ni).within x m in let g = j.1 in omega arith))
+          let f = p.1 in (
+            member_within w n nn x (omega arith) (omega arith),
+            λ m. let j = (has_ends w i ni).within x m in
+                let g = j.1 in omega arith,
+          ))
           q),
     ) in
     least_of_two w (InDifference w n i) (Before w first i) (Behind w i last) r s parts
@@ -87,7 +89,8 @@ least_around {w} {n} {i} {r} {s} first last nn ni o from to h k =
     h k
 
 -- the addresses before a network,
-pub least_before : (w first last : ℕ) (n : Network) (r : List Network) → last + 1 ≡ low w n → IsLeastList w (FromTo first last) r → IsLeastList w (Before w first n) r
+pub least_before : (w first last : ℕ) (n : Network) (r : List Network) → last + 1 ≡ low w n
+    → IsLeastList w (FromTo first last) r → IsLeastList w (Before w first n) r
 least_before w first last n r e h =
     least_of_same w (FromTo first last) (Before w first n) r
     (λ x. ((λ p. let a = p.1 in (p.0, omega arith)), (λ p. let a = p.1 in (p.0, omega arith)))) h
@@ -96,7 +99,8 @@ pub none_before : (w first : ℕ) (n : Network) → low w n ≡ 0 → IsLeastLis
 none_before w first n e = least_of_none w (Before w first n) (λ x p. let a = p.1 in omega arith)
 
 -- the addresses after a network
-pub least_behind : (w first last : ℕ) (n : Network) (r : List Network) → first ≡ high w n + 1 → IsLeastList w (FromTo first last) r → IsLeastList w (Behind w n last) r
+pub least_behind : (w first last : ℕ) (n : Network) (r : List Network) → first ≡ high w n + 1
+    → IsLeastList w (FromTo first last) r → IsLeastList w (Behind w n last) r
 least_behind w first last n r e h =
     least_of_same w (FromTo first last) (Behind w n last) r
     (λ x. ((λ p. let a = p.0 in (omega arith, p.1)), (λ p. let a = p.0 in (omega arith, p.1)))) h

@@ -1,16 +1,6 @@
 -- Lists of networks of either family, and the networks of each family in them.
-use Rattle.std.proofs.Common.{◌≡◌, ◌↔◌, ℕ, sym, refl, ap, subst, ◌∙◌, List, [], ◌∷◌, ◌++◌, map, get_or, Option, Some}
-use Rattle.std.specs.List.{All, Contains, filter_map}
-use Rattle.std.proofs.lemmas.List.Elements.{Contains-get_or}
-use Rattle.ipnetwork_addr.specs.declared.ip.IpAddr.{IpAddr}
+use Rattle.ipnetwork_blocks.proofs.Words.{◌≡◌, ◌↔◌, ℕ, sym, refl, ap, subst, ◌∙◌, List, [], ◌∷◌, ◌++◌, map, Option, Some, Contains, filter_map, IpAddr, Network, IsNetwork, Member, IsIpNetwork, IpMember, IpNetwork, V4, V6, InUnion, LiesInUnion, as_v4, as_v6, InIpUnion, LiesInIpUnion}
 use Rattle.ipnetwork_addr.specs.declared.ip.IpAddr.TheVariants as addresses
-use Rattle.ipnetwork_family.specs.Network.{Network, IsNetwork, Member}
-use Rattle.ipnetwork.specs.IpNetworks.{IsIpNetwork, IpMember}
-use Rattle.ipnetwork.specs.declared.ip_network.IpNetwork.{IpNetwork}
-use Rattle.ipnetwork.specs.declared.ip_network.IpNetwork.TheVariants.{V4, V6}
-use Rattle.ipnetwork_blocks.specs.Aggregate.{InUnion, LiesInUnion, SameUnion}
-use Rattle.ipnetwork_blocks.specs.AggregateIp.{as_v4, as_v6}
-use Rattle.ipnetwork_blocks.specs.AggregateIpLaws.{InIpUnion, LiesInIpUnion, SameIpUnion}
 use Rattle.ipnetwork_blocks.proofs.AggregateIp.{given, gives}
 
 pub through : {P Q R : Type 0} → P ↔ Q → Q ↔ R → P ↔ R
@@ -35,15 +25,12 @@ v4_own r v4 v6 e = sym (ap (filter_map as_v4) e ∙ v4_of_both v4 v6)
 pub v6_own : (r : List IpNetwork) (v4 v6 : List Network) → r ≡ map V4 v4 ++ map V6 v6 → v6 ≡ filter_map as_v6 r
 v6_own r v4 v6 e = sym (ap (filter_map as_v6) e ∙ v6_of_both v4 v6)
 
--- such a list is the concatenation of its networks of each family
-pub own_parts : (r : List IpNetwork) (v4 v6 : List Network) → r ≡ map V4 v4 ++ map V6 v6 → r ≡ map V4 (filter_map as_v4 r) ++ map V6 (filter_map as_v6 r)
-own_parts r v4 v6 e = e ∙ ap (λ l. map V4 l ++ map V6 v6) (v4_own r v4 v6 e) ∙ ap (λ l. map V4 (filter_map as_v4 r) ++ map V6 l) (v6_own r v4 v6 e)
-
 -- ---- the addresses of each family
 
 -- a family of w-bit addresses. `address` gives the address of either family with a given number, and `own` the networks
 -- of the family
-pub record IsFamily (w : ℕ) (own : IpNetwork → Option Network) (put : Network → IpNetwork) (address : ℕ → IpAddr) : Type 0 where
+pub record IsFamily (w : ℕ) (own : IpNetwork → Option Network) (put : Network → IpNetwork) (address : ℕ
+    → IpAddr) : Type 0 where
   pub kept : (y : IpNetwork) (n : Network) → own y ≡ Some n → y ≡ put n
   pub given_back : (n : Network) → own (put n) ≡ Some n
   pub fits : (n : Network) → IsIpNetwork (put n) → IsNetwork w n
@@ -64,7 +51,8 @@ v4_only n (addresses.V4 x) m = (x, refl, m)
 v4_only n (addresses.V6 x) m = absurd m
 
 pub v4_family : IsFamily 32 as_v4 V4 addresses.V4
-v4_family = record { kept = v4_kept; given_back = λ n. refl; fits = λ n h. h; one = v4_one; member = λ n x m. m; only = v4_only }
+v4_family = record
+    { kept = v4_kept; given_back = λ n. refl; fits = λ n h. h; one = v4_one; member = λ n x m. m; only = v4_only }
 
 v6_kept : (y : IpNetwork) (n : Network) → as_v6 y ≡ Some n → y ≡ V6 n
 v6_kept (V4 m) n e = cc
@@ -79,21 +67,17 @@ v6_only n (addresses.V4 x) m = absurd m
 v6_only n (addresses.V6 x) m = (x, refl, m)
 
 pub v6_family : IsFamily 128 as_v6 V6 addresses.V6
-v6_family = record { kept = v6_kept; given_back = λ n. refl; fits = λ n h. h; one = v6_one; member = λ n x m. m; only = v6_only }
+v6_family = record
+    { kept = v6_kept; given_back = λ n. refl; fits = λ n h. h; one = v6_one; member = λ n x m. m; only = v6_only }
 
-module _ {w : ℕ} {own : IpNetwork → Option Network} {put : Network → IpNetwork} {address : ℕ → IpAddr} (family : IsFamily w own put address) where
+module _ {w : ℕ} {own : IpNetwork → Option Network} {put : Network → IpNetwork} {address : ℕ → IpAddr}
+    (family : IsFamily w own put address) where
   -- the networks of the family in a list are those that the list contains
   pub listed : (ns : List IpNetwork) (n : Network) → Contains (filter_map own ns) n ↔ Contains ns (put n)
   listed ns n = (
     (λ c. let g = given own ns n c in subst (λ (y : IpNetwork). Contains ns y) (family.kept g.0 n g.2) g.1),
     (λ c. gives own ns (put n) n c (family.given_back n)),
   )
-
-  pub family_fits : (ns : List IpNetwork) → All IsIpNetwork ns → All (IsNetwork w) (filter_map own ns)
-  family_fits ns all k d l =
-      let n : Network = get_or (filter_map own ns) k d in
-      let c = (listed ns n).0 (Contains-get_or (filter_map own ns) k d l) in
-      family.fits n (subst IsIpNetwork c.2 (all c.0 (put n) c.1))
 
   -- an address lies in the union exactly if it lies in the union of its family's networks
   pub in_family : (ns : List IpNetwork) (x : ℕ) → InUnion w (filter_map own ns) x ↔ InIpUnion ns (address x)
@@ -103,17 +87,10 @@ module _ {w : ℕ} {own : IpNetwork → Option Network} {put : Network → IpNet
   )
 
   -- a network of the family lies in the union exactly if it lies in the union of its family's networks
-  pub lies_in_family : (ns : List IpNetwork) (n : Network) → LiesInUnion w n (filter_map own ns) ↔ LiesInIpUnion (put n) ns
+  pub lies_in_family : (ns : List IpNetwork) (n : Network) → LiesInUnion w n (filter_map own ns)
+      ↔ LiesInIpUnion (put n) ns
   lies_in_family ns n = (
-    (λ h x m. let o = family.only n x m in subst (λ (y : IpAddr). InIpUnion ns y) (sym o.1) ((in_family ns o.0).0 (h o.0 o.2))),
+    (λ h x m. let o = family.only n x m in
+        subst (λ (y : IpAddr). InIpUnion ns y) (sym o.1) ((in_family ns o.0).0 (h o.0 o.2))),
     (λ h x m. (in_family ns x).1 (h (address x) (family.member n x m))),
   )
-
-  -- if two lists have the same union, so do their networks of each family
-  pub same_in_family : (ns ms : List IpNetwork) → SameIpUnion ns ms → SameUnion w (filter_map own ns) (filter_map own ms)
-  same_in_family ns ms h x = through (in_family ns x) (through (h (address x)) ((in_family ms x).1, (in_family ms x).0))
-
--- if the networks of each family in two lists have the same union, so do the two lists
-pub same_by_family : (ns ms : List IpNetwork) → SameUnion 32 (filter_map as_v4 ns) (filter_map as_v4 ms) → SameUnion 128 (filter_map as_v6 ns) (filter_map as_v6 ms) → SameIpUnion ns ms
-same_by_family ns ms h k (addresses.V4 x) = through ((in_family v4_family ns x).1, (in_family v4_family ns x).0) (through (h x) (in_family v4_family ms x))
-same_by_family ns ms h k (addresses.V6 x) = through ((in_family v6_family ns x).1, (in_family v6_family ns x).0) (through (k x) (in_family v6_family ms x))

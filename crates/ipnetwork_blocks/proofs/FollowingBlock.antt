@@ -1,8 +1,5 @@
 -- The block after a network.
-use Rattle.std.proofs.Common.{◌≡◌, ℕ, ◌+◌, ◌-◌, ◌*◌, ◌/◌, ◌^◌, ◌<◌, sym, refl, ap, subst, ◌∙◌, arith}
-use Rattle.ipnetwork_family.specs.Network.{Network, HostBitsAreZero, low, high, block_size, block_of, block_at}
-use Rattle.ipnetwork_family.proofs.Blocks.{size_pos, multiple_begins}
-use Rattle.ipnetwork_blocks.specs.FollowingBlock.{following_block}
+use Rattle.ipnetwork_blocks.proofs.Words.{◌≡◌, ℕ, ◌+◌, ◌-◌, ◌*◌, ◌/◌, ◌^◌, ◌<◌, sym, refl, ap, subst, ◌∙◌, arith, Network, HostBitsAreZero, low, high, block_size, block_of, block_at, size_pos, multiple_begins, following_block}
 
 -- a network's block begins and ends where the network does
 pub block_low : (w : ℕ) (n : Network) → low w (block_of w n) ≡ low w n
@@ -15,12 +12,14 @@ pub high_after : (w : ℕ) (n : Network) → high w n + 1 ≡ low w n + block_si
 high_after w n = omega (arith, size_pos w n.prefix)
 
 -- the block of the same prefix length at the address after a network is the block that follows it
-pub following_is : (w x : ℕ) (n : Network) → x ≡ high w n + 1 → block_of w (record { address = x; prefix = n.prefix }) ≡ following_block w n
+pub following_is : (w x : ℕ) (n : Network) → x ≡ high w n + 1
+    → block_of w (record { address = x; prefix = n.prefix }) ≡ following_block w n
 following_is w x n e =
     let s : ℕ = block_size w n.prefix in
     let q : ℕ = n.address / s in
     let at : x ≡ (q + 1) * s = e ∙ high_after w n ∙ (omega arith) in
-    let begins : x / s * s ≡ high w n + 1 = ap (λ k. k / s * s) at ∙ multiple_begins s (q + 1) (size_pos w n.prefix) ∙ sym at ∙ e in
+    let begins : x / s * s ≡ high w n + 1 = ap (λ k. k / s * s) at ∙ multiple_begins s (q + 1) (size_pos w n.prefix)
+    ∙ sym at ∙ e in
     let at_address : ℕ → Network = λ k. record { address = k; prefix = n.prefix } in
     ap at_address begins
 

@@ -1,29 +1,26 @@
 -- The halves of a block, and two blocks one of which comes after the other.
-use Rattle.std.proofs.Common.{◌≡◌, ℕ, ◌+◌, ◌-◌, ◌*◌, ◌^◌, ◌<◌, ◌≤◌, ◌⊎◌, inl, inr, sym, refl, ap, ◌∙◌, arith, ⊎_elim, ◌↔◌}
-use Rattle.std.proofs.Math.Nat.{div-mul-le_self}
-use Rattle.std.proofs.lemmas.Bool.{cases_lt}
-use Rattle.ipnetwork_family.specs.Network.{Network, IsNetwork, IsCidrBlock, Member, low, block_size, Subnet, high, IsNetworkAtMost}
-use Rattle.ipnetwork_family.proofs.Blocks.{size_pos, size_divides, within_member, member_within, subnet_from, shares_address, block_begins, has_ends}
-use Rattle.ipnetwork_family.proofs.BlocksAt.{block_at_network}
-use Rattle.ipnetwork_blocks.specs.Supernets.{parent}
-use Rattle.ipnetwork_blocks.specs.Private.Joining.{AreHalves}
+use Rattle.ipnetwork_blocks.proofs.Words.{◌≡◌, ℕ, ◌+◌, ◌-◌, ◌*◌, ◌^◌, ◌<◌, ◌≤◌, ◌⊎◌, inl, inr, sym, refl, ap, ◌∙◌, arith, ⊎_elim, ◌↔◌, div-mul-le_self, cases_lt, Network, IsNetwork, IsCidrBlock, Member, low, block_size, Subnet, high, IsNetworkAtMost, size_pos, size_divides, within_member, member_within, subnet_from, shares_address, block_begins, has_ends, block_at_network, parent, AreHalves}
 
 -- a block has twice as many addresses as each of its halves
 pub size_half : (w p : ℕ) → p < w → block_size w p ≡ block_size w (p + 1) + block_size w (p + 1)
 size_half w p h =
     let one : p + 1 - p ≡ 1 = omega arith in
-    let twice : block_size w p ≡ block_size w (p + 1) * 2 ^ (p + 1 - p) = size_divides w p (p + 1) (omega arith) (omega arith) in
+    let twice : block_size w p ≡ block_size w (p + 1) * 2 ^ (p + 1 - p) =
+    size_divides w p (p + 1) (omega arith) (omega arith) in
     twice ∙ ap (λ j. block_size w (p + 1) * 2 ^ j) one ∙ (omega arith)
 
 -- where two halves lie in their block, and the sizes of all three
 halves_stand : (w : ℕ) (t b : Network) → IsCidrBlock w t → IsCidrBlock w b → AreHalves w t b
-    → (low w (parent w t) ≤ t.address) × (b.address + block_size w t.prefix ≤ low w (parent w t) + (block_size w t.prefix + block_size w t.prefix))
-    × (block_size w (parent w t).prefix ≡ block_size w t.prefix + block_size w t.prefix) × (block_size w b.prefix ≡ block_size w t.prefix)
+    → (low w (parent w t) ≤ t.address)
+    × (b.address + block_size w t.prefix ≤ low w (parent w t) + (block_size w t.prefix + block_size w t.prefix))
+    × (block_size w (parent w t).prefix ≡ block_size w t.prefix + block_size w t.prefix)
+    × (block_size w b.prefix ≡ block_size w t.prefix)
 halves_stand w t b ht hb s =
     let d : Network = parent w t in
     let tf = ht.network.prefix_fits in
     let pos = s.1 in
-    let dn : IsNetwork w d = (block_at_network w t.address (t.prefix - 1) ht.network.address_fits (omega arith)).network in
+    let dn : IsNetwork w d = (block_at_network w t.address (t.prefix - 1) ht.network.address_fits (omega arith)).network
+    in
     let back : t.prefix - 1 + 1 ≡ t.prefix = omega arith in
     let half : block_size w (t.prefix - 1) ≡ block_size w t.prefix + block_size w t.prefix =
     size_half w (t.prefix - 1) (omega arith) ∙ ap (λ k. block_size w k + block_size w k) back in
@@ -54,30 +51,38 @@ halves_join w t b ht hb l s =
     let next : b.address ≡ t.address + block_size w t.prefix = omega (arith, p.0, p.1, ht.block) in
     let tf = ht.network.prefix_fits in
     let pos = s.1 in
-    let dn : IsNetwork w d = (block_at_network w t.address (t.prefix - 1) ht.network.address_fits (omega arith)).network in (
+    let dn : IsNetwork w d = (block_at_network w t.address (t.prefix - 1) ht.network.address_fits (omega arith)).network
+    in (
       begins ∙ at,
       λ x. (
         (λ m.
             let i = within_member w d x m in
             ⊎_elim
-            (λ (less : x < t.address + block_size w t.prefix). inl (member_within w t ht.network x (omega (arith, i.0, at, ht.block)) (omega (arith, ht.block))))
-            (λ (le : t.address + block_size w t.prefix ≤ x). inr (member_within w b hb.network x (omega (arith, hb.block, next)) (omega (arith, i.1, p.2, p.3, hb.block, next, at))))
+            (λ (less : x < t.address + block_size w t.prefix).
+            inl (member_within w t ht.network x (omega (arith, i.0, at, ht.block)) (omega (arith, ht.block))))
+            (λ (le : t.address + block_size w t.prefix ≤ x). inr (member_within w b hb.network x
+            (omega (arith, hb.block, next)) (omega (arith, i.1, p.2, p.3, hb.block, next, at))))
             (cases_lt x (t.address + block_size w t.prefix))),
         (λ o. ⊎_elim
-            (λ (m : Member w t x). let i = within_member w t x m in member_within w d dn x (omega (arith, i.0, at, ht.block)) (omega (arith, i.1, at, p.2, ht.block)))
-            (λ (m : Member w b x). let i = within_member w b x m in member_within w d dn x (omega (arith, i.0, at, hb.block, next)) (omega (arith, i.1, at, p.2, p.3, hb.block, next)))
+            (λ (m : Member w t x). let i = within_member w t x m in
+            member_within w d dn x (omega (arith, i.0, at, ht.block)) (omega (arith, i.1, at, p.2, ht.block)))
+            (λ (m : Member w b x). let i = within_member w b x m in member_within w d dn x
+            (omega (arith, i.0, at, hb.block, next)) (omega (arith, i.1, at, p.2, p.3, hb.block, next)))
             o),
       ),
     )
 
 -- for two blocks in order, the second lies in the first or begins after its end
-pub past_top : (w : ℕ) (t b : Network) → IsCidrBlock w t → IsCidrBlock w b → IsNetworkAtMost t b → ¬ (Subnet w b t) → high w t < b.address
+pub past_top : (w : ℕ) (t b : Network) → IsCidrBlock w t → IsCidrBlock w b → IsNetworkAtMost t b → ¬ (Subnet w b t)
+    → high w t < b.address
 past_top w t b ht hb order out =
     let Goal : Type 0 = high w t < b.address in
-    let from : t.address ≤ b.address = ⊎_elim (λ (l : t.address < b.address). omega arith) (λ (e : (t.address ≡ b.address) × (t.prefix ≤ b.prefix)). omega (arith, e.0)) order in
+    let from : t.address ≤ b.address = ⊎_elim (λ (l : t.address < b.address). omega arith)
+    (λ (e : (t.address ≡ b.address) × (t.prefix ≤ b.prefix)). omega (arith, e.0)) order in
     ⊎_elim (λ (ok : high w t < b.address). ok)
     (λ (le : b.address ≤ high w t).
-    let inside : Member w t b.address = member_within w t ht.network b.address (omega (arith, ht.block)) (omega (arith, size_pos w t.prefix)) in
+    let inside : Member w t b.address = member_within w t ht.network b.address (omega (arith, ht.block))
+    (omega (arith, size_pos w t.prefix)) in
     ⊎_elim
     (λ (wide : b.prefix < t.prefix).
     let own : Member w b b.address = (hb.network.address_fits, refl) in

@@ -1,10 +1,5 @@
 -- The part of a set of addresses that lies in a block, and the parts that lie in the block's halves.
-use Rattle.std.proofs.Common.{◌≡◌, ◌↔◌, ℕ, suc, ◌+◌, ◌-◌, ◌^◌, ◌<◌, ◌≤◌, ◌⊎◌, inl, inr, subst, arith, ⊎_elim, List, [], ◌∷◌, ◌++◌}
-use Rattle.std.proofs.lemmas.Bool.{cases_lt}
-use Rattle.std.proofs.lemmas.Nat.{pow_pos}
-use Rattle.ipnetwork_family.specs.Network.{Network, IsNetwork, Member, Subnet}
-use Rattle.ipnetwork_family.proofs.Blocks.{subnet_from, shares_address}
-use Rattle.ipnetwork_blocks.specs.LeastList.{LiesIn, IsLeastList}
+use Rattle.ipnetwork_blocks.proofs.Words.{◌≡◌, ◌↔◌, ℕ, suc, ◌+◌, ◌-◌, ◌^◌, ◌<◌, ◌≤◌, ◌⊎◌, inl, inr, subst, arith, ⊎_elim, List, [], ◌∷◌, ◌++◌, cases_lt, pow_pos, Network, IsNetwork, Member, Subnet, subnet_from, shares_address, LiesIn, IsLeastList}
 use Rattle.ipnetwork_blocks.proofs.BlocksFrom.{block_from, Begins, from_network, from_block, in_from, from_in, twice, lower_begins, upper_begins}
 use Rattle.ipnetwork_blocks.proofs.LeastLists.{own_address, least_of_same, least_of_none, least_of_one, least_of_two}
 
@@ -16,7 +11,8 @@ PartOf S k base x = S x × ((base ≤ x) × (x < base + 2 ^ k))
 abbrev pub HasAll : (ℕ → Type 0) → ℕ → ℕ → Type 0
 HasAll S k base = (x : ℕ) → base ≤ x → x < base + 2 ^ k → S x
 
-pub whole_part : (S : ℕ → Type 0) (w k base : ℕ) → Begins w k base → HasAll S k base → IsLeastList w (PartOf S k base) (block_from w k base ∷ [])
+pub whole_part : (S : ℕ → Type 0) (w k base : ℕ) → Begins w k base → HasAll S k base
+    → IsLeastList w (PartOf S k base) (block_from w k base ∷ [])
 whole_part S w k base h all =
     least_of_same w (Member w (block_from w k base)) (PartOf S k base) (block_from w k base ∷ [])
     (λ x. (
@@ -36,7 +32,8 @@ no_part S w base none =
     none (subst S e p.0))
 
 -- a network of the set within a block that is not all in the set lies in one of the halves
-in_a_half : (S : ℕ → Type 0) (w k base : ℕ) → Begins w (suc k) base → ¬ (HasAll S (suc k) base) → (n : Network) → IsNetwork w n → LiesIn w (PartOf S (suc k) base) n
+in_a_half : (S : ℕ → Type 0) (w k base : ℕ) → Begins w (suc k) base → ¬ (HasAll S (suc k) base) → (n : Network)
+    → IsNetwork w n → LiesIn w (PartOf S (suc k) base) n
     → LiesIn w (PartOf S k base) n ⊎ LiesIn w (PartOf S k (base + 2 ^ k)) n
 in_a_half S w k base h missing n nn lies =
     let own : Member w n n.address = own_address w n nn in
@@ -54,14 +51,17 @@ in_a_half S w k base h missing n nn lies =
     ⊎_elim
     (λ (short : n.prefix < w - k).
     let inside : Member w wide n.address = from_in w (suc k) base n.address h from to in
-    let sub : Subnet w wide n = subnet_from w wide n wn (omega arith) (shares_address w wide n n.address (omega arith) wn nn inside own) in
+    let sub : Subnet w wide n = subnet_from w wide n wn (omega arith)
+    (shares_address w wide n n.address (omega arith) wn nn inside own) in
     let r : Goal = absurd (missing (λ x l m. (lies x (sub x (from_in w (suc k) base x h l m))).0)) in r)
     (λ (long : w - k ≤ n.prefix). ⊎_elim
     (λ (l : n.address < base + 2 ^ k).
-    let sub : Subnet w n (block_from w k base) = subnet_from w n (block_from w k base) nn long (from_in w k base n.address lower from l) in
+    let sub : Subnet w n (block_from w k base) =
+    subnet_from w n (block_from w k base) nn long (from_in w k base n.address lower from l) in
     inl (λ x m. let p = lies x m in (p.0, in_from w k base x lower (sub x m))))
     (λ (l : base + 2 ^ k ≤ n.address).
-    let sub : Subnet w n (block_from w k (base + 2 ^ k)) = subnet_from w n (block_from w k (base + 2 ^ k)) nn long (from_in w k (base + 2 ^ k) n.address upper l (omega arith)) in
+    let sub : Subnet w n (block_from w k (base + 2 ^ k)) = subnet_from w n (block_from w k (base + 2 ^ k)) nn long
+    (from_in w k (base + 2 ^ k) n.address upper l (omega arith)) in
     inr (λ x m. let p = lies x m in (p.0, in_from w k (base + 2 ^ k) x upper (sub x m))))
     (cases_lt n.address (base + 2 ^ k)))
     (cases_lt n.prefix (w - k))
@@ -83,8 +83,10 @@ halves S k base x =
     )
 
 -- the blocks of such a set are those of the lower half followed by those of the upper half
-pub least_of_halves : (S : ℕ → Type 0) (w k base : ℕ) (below above : List Network) → Begins w (suc k) base → ¬ (HasAll S (suc k) base)
-    → IsLeastList w (PartOf S k base) below → IsLeastList w (PartOf S k (base + 2 ^ k)) above → IsLeastList w (PartOf S (suc k) base) (below ++ above)
+pub least_of_halves : (S : ℕ → Type 0) (w k base : ℕ) (below above : List Network) → Begins w (suc k) base
+    → ¬ (HasAll S (suc k) base)
+    → IsLeastList w (PartOf S k base) below → IsLeastList w (PartOf S k (base + 2 ^ k)) above
+    → IsLeastList w (PartOf S (suc k) base) (below ++ above)
 least_of_halves S w k base below above h missing =
     least_of_two w (PartOf S (suc k) base) (PartOf S k base) (PartOf S k (base + 2 ^ k)) below above
     (halves S k base)

@@ -1,13 +1,5 @@
 -- Least lists of blocks: each set has at most one, and least lists can be put together.
-use Rattle.std.proofs.Common.{◌≡◌, ◌↔◌, ℕ, zero, suc, ◌<◌, ◌≤◌, ◌⊎◌, inl, inr, sym, refl, ap, subst, ◌∙◌, arith, ⊎_elim, List, [], ◌∷◌, ◌++◌, length, get_or}
-use Rattle.std.proofs.lemmas.Bool.{cases_lt}
-use Rattle.std.specs.List.{AllPairs, Contains}
-use Rattle.std.proofs.lemmas.List.Elements.{Contains-get_or, Contains-append_left, Contains-append_right, Contains-append_cases}
-use Rattle.std.proofs.lemmas.List.Kept.{AllPairs-cons}
-use Rattle.ipnetwork_family.specs.Network.{Network, IsNetwork, HostBitsAreZero, Member, Subnet}
-use Rattle.ipnetwork_family.proofs.Blocks.{subnet_prefix, nested}
-use Rattle.ipnetwork_family.proofs.BlocksAt.{same_block}
-use Rattle.ipnetwork_blocks.specs.LeastList.{LiesIn, IsMaximalIn, IsLeastList}
+use Rattle.ipnetwork_blocks.proofs.Words.{◌≡◌, ◌↔◌, ℕ, zero, suc, ◌<◌, ◌≤◌, ◌⊎◌, inl, inr, sym, refl, ap, subst, ◌∙◌, arith, ⊎_elim, List, [], ◌∷◌, ◌++◌, length, get_or, cases_lt, AllPairs, Contains, Contains-get_or, Contains-append_left, Contains-append_right, Contains-append_cases, AllPairs-cons, Network, IsNetwork, HostBitsAreZero, Member, Subnet, subnet_prefix, nested, same_block, LiesIn, IsMaximalIn, IsLeastList}
 
 -- ---- lists
 
@@ -31,7 +23,8 @@ contains_nil x c = let l = c.1 in omega arith
 pub pairs_tail : {X : Type 0} (R : X → X → Type 0) (x : X) (xs : List X) → AllPairs R (x ∷ xs) → AllPairs R xs
 pairs_tail R x xs h i j d l m = h (suc i) (suc j) d (omega arith) (omega arith)
 
-pub pairs_head : {X : Type 0} (R : X → X → Type 0) (x : X) (xs : List X) → AllPairs R (x ∷ xs) → (y : X) → Contains xs y → R x y
+pub pairs_head : {X : Type 0} (R : X → X → Type 0) (x : X) (xs : List X) → AllPairs R (x ∷ xs) → (y : X)
+    → Contains xs y → R x y
 pairs_head {X} R x xs h y c =
     let l = c.1 in
     subst (λ (z : X). R x z) c.2 (h 0 (suc c.0) y (omega arith) (omega arith))
@@ -61,7 +54,8 @@ rest_of_same {X} key x y xs ys h first has b c =
     (λ (d : Contains ys b). d) (contains_cons y ys b (has b (contains_tail x xs b c)))
 
 -- two lists that ascend by the same key and have the same elements are equal
-ascending_unique : {X : Type 0} (key : X → ℕ) (xs ys : List X) → AllPairs (λ a b. key a < key b) xs → AllPairs (λ a b. key a < key b) ys
+ascending_unique : {X : Type 0} (key : X → ℕ) (xs ys : List X) → AllPairs (λ a b. key a < key b) xs
+    → AllPairs (λ a b. key a < key b) ys
     → ((b : X) → Contains xs b ↔ Contains ys b) → xs ≡ ys
 ascending_unique key [] [] h k same = refl
 ascending_unique key [] (y ∷ ys) h k same = absurd (contains_nil y ((same y).1 (contains_head y ys)))
@@ -77,7 +71,10 @@ ascending_unique {X} key (x ∷ xs) (y ∷ ys) h k same =
     (contains_cons x xs y ((same y).1 (contains_head y ys))))
     (contains_cons y ys x ((same x).0 (contains_head x xs))) in
     ap (λ z. z ∷ xs) first ∙ ap (λ zs. y ∷ zs) (ascending_unique key xs ys (pairs_tail R x xs h) (pairs_tail R y ys k)
-    (λ b. (rest_of_same key x y xs ys h first (λ a. (same a).0) b, rest_of_same key y x ys xs k (sym first) (λ a. (same a).1) b)))
+    (λ b. (
+      rest_of_same key x y xs ys h first (λ a. (same a).0) b,
+      rest_of_same key y x ys xs k (sym first) (λ a. (same a).1) b,
+    )))
 
 -- ---- least lists
 
@@ -87,7 +84,8 @@ own_address w n h = (h.address_fits, refl)
 
 -- a block that is maximal in one set is maximal in another if it lies in that, and every network around it that lies in
 -- the other set lies in the first
-maximal_in : (w : ℕ) (S T : ℕ → Type 0) (b : Network) → IsMaximalIn w S b → LiesIn w T b → ((n : Network) → IsNetwork w n → Subnet w b n → LiesIn w T n → LiesIn w S n) → IsMaximalIn w T b
+maximal_in : (w : ℕ) (S T : ℕ → Type 0) (b : Network) → IsMaximalIn w S b → LiesIn w T b
+    → ((n : Network) → IsNetwork w n → Subnet w b n → LiesIn w T n → LiesIn w S n) → IsMaximalIn w T b
 maximal_in w S T b m lies around = record {
   network = m.network;
   block = m.block;
@@ -95,11 +93,14 @@ maximal_in w S T b m lies around = record {
   maximal = λ n h lt sub wide. m.maximal n h lt sub (around n h sub wide);
 }
 
-maximal_of_same : (w : ℕ) (S T : ℕ → Type 0) → ((x : ℕ) → S x ↔ T x) → (b : Network) → IsMaximalIn w S b → IsMaximalIn w T b
-maximal_of_same w S T same b m = maximal_in w S T b m (λ x k. (same x).0 (m.lies x k)) (λ n h sub lies x k. (same x).1 (lies x k))
+maximal_of_same : (w : ℕ) (S T : ℕ → Type 0) → ((x : ℕ) → S x ↔ T x) → (b : Network) → IsMaximalIn w S b
+    → IsMaximalIn w T b
+maximal_of_same w S T same b m =
+    maximal_in w S T b m (λ x k. (same x).0 (m.lies x k)) (λ n h sub lies x k. (same x).1 (lies x k))
 
 -- a least list depends only on the addresses of the set
-pub least_of_same : (w : ℕ) (S T : ℕ → Type 0) (r : List Network) → ((x : ℕ) → S x ↔ T x) → IsLeastList w S r → IsLeastList w T r
+pub least_of_same : (w : ℕ) (S T : ℕ → Type 0) (r : List Network) → ((x : ℕ) → S x ↔ T x) → IsLeastList w S r
+    → IsLeastList w T r
 least_of_same w S T r same h = record {
   maximal = λ b. (
     (λ c. maximal_of_same w S T same b ((h.maximal b).0 c)),
@@ -111,27 +112,32 @@ least_of_same w S T r same h = record {
 -- a set has at most one least list
 pub least_unique : (w : ℕ) (S : ℕ → Type 0) (r s : List Network) → IsLeastList w S r → IsLeastList w S s → r ≡ s
 least_unique w S r s h k =
-    ascending_unique (λ n. n.address) r s h.ascending k.ascending (λ b. ((λ c. (k.maximal b).1 ((h.maximal b).0 c)), (λ c. (h.maximal b).1 ((k.maximal b).0 c))))
+    ascending_unique (λ n. n.address) r s h.ascending k.ascending
+    (λ b. ((λ c. (k.maximal b).1 ((h.maximal b).0 c)), (λ c. (h.maximal b).1 ((k.maximal b).0 c))))
 
 -- two maximal blocks that share an address are equal
-pub maximal_apart : (w : ℕ) (S : ℕ → Type 0) (a b : Network) → IsMaximalIn w S a → IsMaximalIn w S b → (x : ℕ) → Member w a x → Member w b x → a ≡ b
+pub maximal_apart : (w : ℕ) (S : ℕ → Type 0) (a b : Network) → IsMaximalIn w S a → IsMaximalIn w S b → (x : ℕ)
+    → Member w a x → Member w b x → a ≡ b
 maximal_apart w S a b ha hb x ma mb =
     ⊎_elim
     (λ (s : Subnet w a b). within a b ha hb s x ma mb)
     (λ (s : Subnet w b a). sym (within b a hb ha s x mb ma))
     (nested w a b ha.network hb.network (x, ma, mb))
   where
-    within : (a b : Network) → IsMaximalIn w S a → IsMaximalIn w S b → Subnet w a b → (x : ℕ) → Member w a x → Member w b x → a ≡ b
+    within : (a b : Network) → IsMaximalIn w S a → IsMaximalIn w S b → Subnet w a b → (x : ℕ) → Member w a x
+        → Member w b x → a ≡ b
     within a b ha hb s x ma mb =
         ⊎_elim
         (λ (wide : b.prefix < a.prefix). let r : a ≡ b = absurd (ha.maximal b hb.network wide s hb.lies) in r)
-        (λ (le : a.prefix ≤ b.prefix). let ge = subnet_prefix w a b ha.network hb.network s in same_block w a b ha.block hb.block (omega arith) x ma mb)
+        (λ (le : a.prefix ≤ b.prefix). let ge = subnet_prefix w a b ha.network hb.network s in
+        same_block w a b ha.block hb.block (omega arith) x ma mb)
         (cases_lt b.prefix a.prefix)
 
 -- the least list of the empty set
 pub least_of_none : (w : ℕ) (S : ℕ → Type 0) → ((x : ℕ) → S x → ⊥) → IsLeastList w S []
 least_of_none w S none = record {
-  maximal = λ b. ((λ c. absurd (contains_nil b c)), (λ m. absurd (none b.address (m.lies b.address (own_address w b m.network)))));
+  maximal = λ b.
+      ((λ c. absurd (contains_nil b c)), (λ m. absurd (none b.address (m.lies b.address (own_address w b m.network)))));
   ascending = λ i j d l m. absurd (omega arith);
 }
 
@@ -146,7 +152,8 @@ least_of_one w b h k =
     } in
     record {
       maximal = λ a. (
-        (λ c. ⊎_elim (λ (e : b ≡ a). subst (λ (n : Network). IsMaximalIn w (Member w b) n) e own) (λ (c : Contains [] a). absurd (contains_nil a c)) (contains_cons b [] a c)),
+        (λ c. ⊎_elim (λ (e : b ≡ a). subst (λ (n : Network). IsMaximalIn w (Member w b) n) e own)
+            (λ (c : Contains [] a). absurd (contains_nil a c)) (contains_cons b [] a c)),
         (λ m.
             let x = own_address w a m.network in
             let e : b ≡ a = maximal_apart w (Member w b) b a own m a.address (m.lies a.address x) x in
@@ -156,7 +163,8 @@ least_of_one w b h k =
     }
 
 -- the least list of a set of two parts, one before the other, if no network in the set has addresses of both
-pub least_of_two : (w : ℕ) (S P Q : ℕ → Type 0) (r s : List Network) → ((x : ℕ) → S x ↔ (P x ⊎ Q x)) → ((x y : ℕ) → P x → Q y → x < y)
+pub least_of_two : (w : ℕ) (S P Q : ℕ → Type 0) (r s : List Network) → ((x : ℕ) → S x ↔ (P x ⊎ Q x))
+    → ((x y : ℕ) → P x → Q y → x < y)
     → ((n : Network) → IsNetwork w n → LiesIn w S n → LiesIn w P n ⊎ LiesIn w Q n)
     → IsLeastList w P r → IsLeastList w Q s → IsLeastList w S (r ++ s)
 least_of_two w S P Q r s parts before one h k =
@@ -167,15 +175,18 @@ least_of_two w S P Q r s parts before one h k =
             (λ (c : Contains s b). upper b ((k.maximal b).0 c))
             (Contains-append_cases r s b c)),
         (λ (m : IsMaximalIn w S b). ⊎_elim
-            (λ (lies : LiesIn w P b). Contains-append_left r s b ((h.maximal b).1 (maximal_in w S P b m lies (λ n nn sub wide x l. (parts x).1 (inl (wide x l))))))
-            (λ (lies : LiesIn w Q b). Contains-append_right r s b ((k.maximal b).1 (maximal_in w S Q b m lies (λ n nn sub wide x l. (parts x).1 (inr (wide x l))))))
+            (λ (lies : LiesIn w P b). Contains-append_left r s b
+            ((h.maximal b).1 (maximal_in w S P b m lies (λ n nn sub wide x l. (parts x).1 (inl (wide x l))))))
+            (λ (lies : LiesIn w Q b). Contains-append_right r s b
+            ((k.maximal b).1 (maximal_in w S Q b m lies (λ n nn sub wide x l. (parts x).1 (inr (wide x l))))))
             (one b m.network m.lies)),
       );
       ascending = pairs_append (λ a b. a.address < b.address) r s h.ascending k.ascending
           (λ a b c d.
           let ma = (h.maximal a).0 c in
           let mb = (k.maximal b).0 d in
-          before a.address b.address (ma.lies a.address (own_address w a ma.network)) (mb.lies b.address (own_address w b mb.network)));
+          before a.address b.address (ma.lies a.address (own_address w a ma.network))
+          (mb.lies b.address (own_address w b mb.network)));
     }
   where
     lower : (b : Network) → IsMaximalIn w P b → IsMaximalIn w S b

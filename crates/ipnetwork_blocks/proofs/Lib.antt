@@ -11,6 +11,7 @@ pub mod AggregateMapped
 pub mod AggregatePass
 pub mod AggregateUnions
 pub mod BlockExamples
+pub mod BlockRuns
 pub mod BlocksFrom
 pub mod ExcludedCounts
 pub mod ExcludedParts
@@ -18,10 +19,8 @@ pub mod Families
 pub mod FollowingBlock
 pub mod HalfBlocks
 pub mod HalfParts
-pub mod HostLaws
 pub mod HostLists
-pub mod IpLawExamples
-pub mod LawExamples
+pub mod Known
 pub mod LeastLists
 pub mod MaximalBlocks
 pub mod NumberedSubnet
@@ -29,10 +28,9 @@ pub mod PrecedingBlock
 pub mod RangeCounts
 pub mod RangeExamples
 pub mod RangeLists
-pub mod BlockRuns
 pub mod SpanningBlock
 pub mod SpanningExamples
-pub mod SubnetLaws
 pub mod UnionLaws
 pub mod WiderBlocks
 pub mod WidestBlock
+pub mod Words

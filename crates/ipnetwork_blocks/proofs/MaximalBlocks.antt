@@ -1,19 +1,6 @@
 -- Each address of a set lies in one maximal block, and no shorter list of networks has all of the addresses.
-use Rattle.std.proofs.Common.{◌≡◌, ◌↔◌, ℕ, zero, suc, ◌+◌, ◌-◌, ◌/◌, ◌^◌, ◌<◌, ◌≤◌, ◌⊎◌, inl, inr, sym, ap, subst, ◌∙◌, arith, ⊎_elim, List, [], ◌∷◌, length, get_or}
-use Rattle.std.proofs.lemmas.Bool.{cases_lt, cases_eq, cases_order}
-use Rattle.std.proofs.lemmas.List.{get_or_default}
-use Rattle.std.proofs.lemmas.List.Edits.{length-remove, get_or-remove_below, get_or-remove_above}
-use Rattle.std.proofs.lemmas.List.Elements.{All-contains, Contains-get_or}
-use Rattle.std.specs.List.{All, AllPairs, Contains, remove}
-use Rattle.ipnetwork_family.specs.Network.{Network, IsNetwork, Member, low, high, block_size, block_of, block_at, Subnet}
-use Rattle.ipnetwork_family.proofs.Blocks.{size_pos, has_ends, within_member, member_within, subnet_from, shares_address, nested, block_fits_too, block_begins, block_same_set}
-use Rattle.ipnetwork_family.proofs.BlocksAt.{block_at_network, block_at_holds, block_at_subnet}
-use Rattle.ipnetwork_blocks.specs.LeastList.{LiesIn, IsMaximalIn, IsLeastList}
-use Rattle.ipnetwork_blocks.specs.Aggregate.{InUnion}
-use Rattle.ipnetwork_blocks.specs.LeastListLaws.{IsShortest, RangeIsShortest, ExclusionIsShortest, NetworkIsOneBlock}
-use Rattle.ipnetwork_blocks.specs.Ranges.{FromTo}
-use Rattle.ipnetwork_blocks.specs.Exclusion.{InDifference}
-use Rattle.ipnetwork_blocks.proofs.LeastLists.{contains_head, contains_tail, pairs_tail, pairs_head, own_address, maximal_apart, least_of_same, least_of_one, least_unique}
+use Rattle.ipnetwork_blocks.proofs.Words.{◌≡◌, ◌↔◌, ℕ, zero, suc, ◌+◌, ◌-◌, ◌/◌, ◌^◌, ◌<◌, ◌≤◌, ◌⊎◌, inl, inr, sym, ap, subst, ◌∙◌, arith, ⊎_elim, List, [], ◌∷◌, length, get_or, cases_lt, cases_eq, cases_order, get_or_default, length-remove, get_or-remove_below, get_or-remove_above, All-contains, Contains-get_or, All, AllPairs, Contains, remove, Network, IsNetwork, Member, low, high, block_size, block_at, Subnet, size_pos, within_member, member_within, subnet_from, shares_address, nested, block_begins, block_at_network, block_at_holds, block_at_subnet, LiesIn, IsMaximalIn, IsLeastList, InUnion, IsShortest, RangeIsShortest, FromTo}
+use Rattle.ipnetwork_blocks.proofs.LeastLists.{contains_head, contains_tail, pairs_tail, pairs_head, own_address, maximal_apart, least_unique}
 
 -- ---- each address of the set lies in a maximal block, if membership in the set is decidable
 
@@ -30,19 +17,23 @@ row_or_not S tells start (suc count) =
     (cases_lt x (start + count))))
     (λ (misses : ¬ (S (start + count))). inr (start + count, omega arith, omega arith, misses))
     (tells (start + count)))
-    (λ (miss : (x : ℕ) × (start ≤ x) × (x < start + count) × ¬ (S x)). let l = miss.2 in inr (miss.0, miss.1, omega arith, miss.3))
+    (λ (miss : (x : ℕ) × (start ≤ x) × (x < start + count) × ¬ (S x)). let l = miss.2 in
+    inr (miss.0, miss.1, omega arith, miss.3))
     (row_or_not S tells start count)
 
-lies_or_not : (w : ℕ) (S : ℕ → Type 0) → ((x : ℕ) → S x ⊎ ¬ (S x)) → (b : Network) → IsNetwork w b → LiesIn w S b ⊎ ¬ (LiesIn w S b)
+lies_or_not : (w : ℕ) (S : ℕ → Type 0) → ((x : ℕ) → S x ⊎ ¬ (S x)) → (b : Network) → IsNetwork w b
+    → LiesIn w S b ⊎ ¬ (LiesIn w S b)
 lies_or_not w S tells b h =
     let from : ℕ = low w b in
     let size : ℕ = block_size w b.prefix in
     ⊎_elim
     (λ (all : (x : ℕ) → from ≤ x → x < from + size → S x). inl (λ x m. let i = within_member w b x m in all x i.0 i.1))
-    (λ (miss : (x : ℕ) × (from ≤ x) × (x < from + size) × ¬ (S x)). inr (λ all. miss.3 (all miss.0 (member_within w b h miss.0 miss.1 miss.2))))
+    (λ (miss : (x : ℕ) × (from ≤ x) × (x < from + size) × ¬ (S x)). inr
+    (λ all. miss.3 (all miss.0 (member_within w b h miss.0 miss.1 miss.2))))
     (row_or_not S tells from size)
 
-widest_from : (w : ℕ) (S : ℕ → Type 0) → ((x : ℕ) → S x ⊎ ¬ (S x)) → (x p : ℕ) → p ≤ w → x < 2 ^ w → LiesIn w S (block_at w x p)
+widest_from : (w : ℕ) (S : ℕ → Type 0) → ((x : ℕ) → S x ⊎ ¬ (S x)) → (x p : ℕ) → p ≤ w → x < 2 ^ w
+    → LiesIn w S (block_at w x p)
     → (b : Network) × IsMaximalIn w S b × Member w b x
 widest_from w S tells x zero h l lies = (
   block_at w x 0,
@@ -64,13 +55,15 @@ widest_from w S tells x (suc p) h l lies =
         network = (block_at_network w x (suc p) l h).network;
         block = block_begins w (record { address = x; prefix = suc p });
         lies = lies;
-        maximal = λ c cn lt sub more. fails (λ y m. more y (block_at_subnet w x p c (omega arith) fits (sub x (block_at_holds w x (suc p) l)) y m));
+        maximal = λ c cn lt sub more. fails
+            (λ y m. more y (block_at_subnet w x p c (omega arith) fits (sub x (block_at_holds w x (suc p) l)) y m));
       },
       block_at_holds w x (suc p) l,
     ))
     (lies_or_not w S tells (block_at w x p) ((block_at_network w x p l fits).network))
 
-pub in_a_maximal : (w : ℕ) (S : ℕ → Type 0) → ((x : ℕ) → S x ⊎ ¬ (S x)) → (x : ℕ) → x < 2 ^ w → S x → (b : Network) × IsMaximalIn w S b × Member w b x
+pub in_a_maximal : (w : ℕ) (S : ℕ → Type 0) → ((x : ℕ) → S x ⊎ ¬ (S x)) → (x : ℕ) → x < 2 ^ w → S x
+    → (b : Network) × IsMaximalIn w S b × Member w b x
 in_a_maximal w S tells x l s =
     let alone : (y : ℕ) → Member w (block_at w x w) y → x ≡ y = λ y m.
     let size : block_size w w ≡ 1 = let e : w - w ≡ 0 = omega arith in ap (λ k. 2 ^ k) e in
@@ -79,7 +72,8 @@ in_a_maximal w S tells x l s =
     omega (arith, i.0, i.1, j.0, j.1, size) in
     widest_from w S tells x w (omega arith) l (λ y m. subst S (alone y m) s)
 
-has_set : (w : ℕ) (S : ℕ → Type 0) (r : List Network) → ((x : ℕ) → S x ⊎ ¬ (S x)) → ((x : ℕ) → S x → x < 2 ^ w) → IsLeastList w S r
+has_set : (w : ℕ) (S : ℕ → Type 0) (r : List Network) → ((x : ℕ) → S x ⊎ ¬ (S x)) → ((x : ℕ) → S x → x < 2 ^ w)
+    → IsLeastList w S r
     → (x : ℕ) → InUnion w r x ↔ S x
 has_set w S r tells fits h x = (
   (λ c. ((h.maximal c.0).0 c.1).lies x c.2),
@@ -88,7 +82,8 @@ has_set w S r tells fits h x = (
 
 -- ---- least lists
 
-least_is_apart : (w : ℕ) (S : ℕ → Type 0) (r : List Network) → IsLeastList w S r → AllPairs (λ a b. high w a < b.address) r
+least_is_apart : (w : ℕ) (S : ℕ → Type 0) (r : List Network) → IsLeastList w S r
+    → AllPairs (λ a b. high w a < b.address) r
 least_is_apart w S r h i j d l m =
     let a : Network = get_or r i d in
     let b : Network = get_or r j d in
@@ -97,36 +92,26 @@ least_is_apart w S r h i j d l m =
     let less : a.address < b.address = h.ascending i j d l m in
     ⊎_elim (λ (ok : high w a < b.address). ok)
     (λ (le : b.address ≤ high w a).
-    let inside : Member w a b.address = member_within w a ma.network b.address (omega (arith, ma.block)) (omega (arith, size_pos w a.prefix)) in
+    let inside : Member w a b.address = member_within w a ma.network b.address (omega (arith, ma.block))
+    (omega (arith, size_pos w a.prefix)) in
     let same : a ≡ b = maximal_apart w S a b ma mb b.address inside (own_address w b mb.network) in
     let at : a.address ≡ b.address = ap (λ n. n.address) same in
     let r : high w a < b.address = absurd (omega arith) in r)
     (cases_lt (high w a) b.address)
 
-pub network_is_one_block : NetworkIsOneBlock
-network_is_one_block w n r nn h =
-    let b : Network = block_of w n in
-    let bn : IsNetwork w b = block_fits_too w n nn in
-    let pos = size_pos w n.prefix in
-    least_unique w (FromTo (low w n) (high w n)) r (b ∷ []) h
-    (least_of_same w (Member w b) (FromTo (low w n) (high w n)) (b ∷ [])
-    (λ x. (
-      (λ m. (has_ends w n nn).within x ((block_same_set w n x).0 m)),
-      (λ p. let from = p.0 in let to = p.1 in (block_same_set w n x).1 (member_within w n nn x from (omega arith))),
-    ))
-    (least_of_one w b bn (block_begins w n)))
-
 -- ---- no shorter list of networks has the same addresses
 
 -- an element other than the removed one remains
-contains_removed : {X : Type 0} (ys : List X) (i : ℕ) (y : X) → i < length ys → (c : Contains ys y) → (c.0 ≡ i → ⊥) → Contains (remove ys i) y
+contains_removed : {X : Type 0} (ys : List X) (i : ℕ) (y : X) → i < length ys → (c : Contains ys y) → (c.0 ≡ i → ⊥)
+    → Contains (remove ys i) y
 contains_removed {X} ys i y l c other =
     let size = length-remove ys i l in
     let k : ℕ = c.0 in
     let kl : k < length ys = c.1 in
     ⊎_elim (λ (e : k ≡ i). absurd (other e))
     (λ (o : (k < i) ⊎ (i < k)). ⊎_elim
-    (λ (b : k < i). let fits : k < length (remove ys i) = omega arith in (k, fits, get_or-remove_below ys i y k b l ∙ c.2))
+    (λ (b : k < i). let fits : k < length (remove ys i) = omega arith in
+    (k, fits, get_or-remove_below ys i y k b l ∙ c.2))
     (λ (b : i < k).
     let fits : k - 1 < length (remove ys i) = omega arith in
     let back : k - 1 + 1 ≡ k = omega arith in
@@ -157,7 +142,8 @@ as_long {X} {Y} P (x ∷ xs) ys apart has =
     omega (arith, length-remove ys at l)
 
 -- a maximal block contains one of the networks
-pub holds_one : (w : ℕ) (S : ℕ → Type 0) (ms : List Network) (b : Network) → All (IsNetwork w) ms → ((x : ℕ) → InUnion w ms x ↔ S x) → IsMaximalIn w S b
+pub holds_one : (w : ℕ) (S : ℕ → Type 0) (ms : List Network) (b : Network) → All (IsNetwork w) ms
+    → ((x : ℕ) → InUnion w ms x ↔ S x) → IsMaximalIn w S b
     → (n : Network) × Contains ms n × Subnet w n b
 holds_one w S ms b hm same m =
     let own : Member w b b.address = own_address w b m.network in
@@ -166,13 +152,15 @@ holds_one w S ms b hm same m =
     let nn : IsNetwork w n = All-contains (IsNetwork w) ms n hm c.1 in
     let sub : Subnet w n b = ⊎_elim (λ (s : Subnet w n b). s)
     (λ (s : Subnet w b n). ⊎_elim
-    (λ (wide : n.prefix < b.prefix). let r : Subnet w n b = absurd (m.maximal n nn wide s (λ x k. (same x).0 (n, c.1, k))) in r)
+    (λ (wide : n.prefix < b.prefix).
+    let r : Subnet w n b = absurd (m.maximal n nn wide s (λ x k. (same x).0 (n, c.1, k))) in r)
     (λ (le : b.prefix ≤ n.prefix). subnet_from w n b nn le (shares_address w n b b.address le nn m.network c.2 own))
     (cases_lt n.prefix b.prefix))
     (nested w n b nn m.network (b.address, c.2, own)) in
     (n, c.1, sub)
 
-least_is_shortest : (w : ℕ) (S : ℕ → Type 0) (r ms : List Network) → IsLeastList w S r → All (IsNetwork w) ms → ((x : ℕ) → InUnion w ms x ↔ S x) → length r ≤ length ms
+least_is_shortest : (w : ℕ) (S : ℕ → Type 0) (r ms : List Network) → IsLeastList w S r → All (IsNetwork w) ms
+    → ((x : ℕ) → InUnion w ms x ↔ S x) → length r ≤ length ms
 least_is_shortest w S r ms h hm same =
     let P : Network → Network → Type 0 = λ b n. IsNetwork w n × Subnet w n b in
     as_long P r ms
@@ -191,7 +179,8 @@ least_is_shortest w S r ms h hm same =
 
 -- ---- the laws
 
-pub is_shortest : (w : ℕ) (S : ℕ → Type 0) (r : List Network) → ((x : ℕ) → S x ⊎ ¬ (S x)) → ((x : ℕ) → S x → x < 2 ^ w) → IsLeastList w S r → IsShortest w S r
+pub is_shortest : (w : ℕ) (S : ℕ → Type 0) (r : List Network) → ((x : ℕ) → S x ⊎ ¬ (S x)) → ((x : ℕ) → S x → x < 2 ^ w)
+    → IsLeastList w S r → IsShortest w S r
 is_shortest w S r tells fits h = record {
   addresses = has_set w S r tells fits h;
   apart = least_is_apart w S r h;
@@ -221,16 +210,3 @@ member_or_not w n x =
     (cases_eq (x / block_size w n.prefix) (n.address / block_size w n.prefix)))
     (λ (le : 2 ^ w ≤ x). inr (λ m. let l = m.0 in omega arith))
     (cases_lt x (2 ^ w))
-
-pub exclusion_is_shortest : ExclusionIsShortest
-exclusion_is_shortest w n i r h =
-    is_shortest w (InDifference w n i) r
-    (λ x. ⊎_elim
-    (λ (m : Member w n x). ⊎_elim
-    (λ (k : Member w i x). inr (λ p. p.1 k))
-    (λ (k : ¬ (Member w i x)). inl (m, k))
-    (member_or_not w i x))
-    (λ (m : ¬ (Member w n x)). inr (λ p. m p.0))
-    (member_or_not w n x))
-    (λ x p. p.0.0)
-    h

@@ -1,12 +1,5 @@
 -- The block with a given number among those of a prefix length within a network.
-use Rattle.std.proofs.Common.{◌≡◌, ◌≢◌, ◌↔◌, ℕ, zero, suc, refl, ◌+◌, ◌-◌, ◌*◌, ◌/◌, ◌^◌, ◌<◌, ◌≤◌, IsTrue, nat_eq, ap, ◌∙◌, arith, ⊎_elim}
-use Rattle.std.proofs.Math.Nat.{add-mul-div_left, div-lt_iff_lt-mul}
-use Rattle.std.proofs.Math.Pow.{pow_mono}
-use Rattle.std.proofs.lemmas.Bool.{cases_lt, eqb-true, eq-eqb}
-use Rattle.std.proofs.lemmas.Nat.{pow_pos, mul-le}
-use Rattle.ipnetwork_family.specs.Network.{Network, IsNetwork, low, block_size, block_at}
-use Rattle.ipnetwork_family.proofs.Blocks.{size_pos, size_divides, high_fits}
-use Rattle.ipnetwork_blocks.specs.Subnets.{subnet_number}
+use Rattle.ipnetwork_blocks.proofs.Words.{◌≡◌, ◌≢◌, ◌↔◌, ℕ, zero, suc, refl, ◌+◌, ◌-◌, ◌*◌, ◌/◌, ◌^◌, ◌<◌, ◌≤◌, IsTrue, nat_eq, ap, ◌∙◌, arith, ⊎_elim, add-mul-div_left, div-lt_iff_lt-mul, pow_mono, cases_lt, eqb-true, eq-eqb, pow_pos, mul-le, Network, IsNetwork, low, block_size, block_at, size_pos, size_divides, high_fits, subnet_number}
 
 -- i is the number of a block of prefix length p within the network
 pub record IsNumber (w : ℕ) (n : Network) (p i : ℕ) : Type 0 where
@@ -16,11 +9,16 @@ pub record IsNumber (w : ℕ) (n : Network) (p i : ℕ) : Type 0 where
   pub below : i < 2 ^ (p - n.prefix)
 
 -- the block's addresses lie within the network
-distance_fits : (w : ℕ) (n : Network) (p i : ℕ) → IsNumber w n p i → i * block_size w p + block_size w p ≤ block_size w n.prefix
+distance_fits : (w : ℕ) (n : Network) (p i : ℕ) → IsNumber w n p i
+    → i * block_size w p + block_size w p ≤ block_size w n.prefix
 distance_fits w n p i h =
     let s : ℕ = block_size w p in
     let many : ℕ = 2 ^ (p - n.prefix) in
-    omega (arith, mul-le (i + 1) s many s (omega (arith, h.below)) (omega arith), size_divides w n.prefix p h.longer h.within)
+    omega (
+      arith,
+      mul-le (i + 1) s many s (omega (arith, h.below)) (omega arith),
+      size_divides w n.prefix p h.longer h.within,
+    )
 
 pub begins_within : (w : ℕ) (n : Network) (p i : ℕ) → IsNumber w n p i → low w n + i * block_size w p < 2 ^ w
 begins_within w n p i h = omega (arith, distance_fits w n p i h, size_pos w p, high_fits w n h.network)
@@ -28,10 +26,12 @@ begins_within w n p i h = omega (arith, distance_fits w n p i h, size_pos w p, h
 pub offset_fits : (w : ℕ) (n : Network) (p i : ℕ) → IsNumber w n p i → w ≤ 128 → i * block_size w p < 2 ^ 128
 offset_fits w n p i h few = omega (arith, begins_within w n p i h, pow_mono few)
 
-pub numbered : (w : ℕ) (n : Network) (p i x : ℕ) → x ≡ low w n + i * block_size w p → block_at w x p ≡ subnet_number w n p i
+pub numbered : (w : ℕ) (n : Network) (p i x : ℕ) → x ≡ low w n + i * block_size w p
+    → block_at w x p ≡ subnet_number w n p i
 numbered w n p i x e =
     let s : ℕ = block_size w p in
-    let at : x / s ≡ low w n / s + i = ap (λ k. k / s) (e ∙ (omega arith)) ∙ add-mul-div_left (low w n) i (size_pos w p) in
+    let at : x / s ≡ low w n / s + i = ap (λ k. k / s) (e ∙ (omega arith))
+    ∙ add-mul-div_left (low w n) i (size_pos w p) in
     let begin : ℕ → Network = λ q. record { address = q * s; prefix = p } in
     ap begin at
 
@@ -54,5 +54,6 @@ few_shifted (suc n) k some fits =
     ⊎_elim (λ (l : k < 128). l)
     (λ (le : 128 ≤ k).
     let more : 2 ^ 128 ≤ 2 ^ k = pow_mono le in
-    let r : k < 128 = absurd (omega (arith, fits, mul-le 1 (2 ^ k) (suc n) (2 ^ k) (omega arith) (omega arith), more)) in r)
+    let r : k < 128 = absurd (omega (arith, fits, mul-le 1 (2 ^ k) (suc n) (2 ^ k) (omega arith) (omega arith), more))
+    in r)
     (cases_lt k 128)

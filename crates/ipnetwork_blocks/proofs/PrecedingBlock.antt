@@ -1,8 +1,5 @@
 -- The block before a network.
-use Rattle.std.proofs.Common.{◌≡◌, ℕ, zero, suc, ◌+◌, ◌-◌, ◌*◌, ◌/◌, ◌<◌, sym, ap, subst, ◌∙◌, arith}
-use Rattle.ipnetwork_family.specs.Network.{Network, HostBitsAreZero, low, block_size, block_at}
-use Rattle.ipnetwork_family.proofs.Blocks.{div_within, size_pos}
-use Rattle.ipnetwork_blocks.specs.PrecedingBlock.{preceding_block}
+use Rattle.ipnetwork_blocks.proofs.Words.{◌≡◌, ℕ, zero, suc, ◌+◌, ◌-◌, ◌*◌, ◌/◌, ◌<◌, sym, ap, subst, ◌∙◌, arith, Network, HostBitsAreZero, low, block_size, block_at, div_within, size_pos, preceding_block}
 use Rattle.ipnetwork_blocks.proofs.FollowingBlock.{block_low}
 
 -- the greatest multiple of s up to the number just before a multiple

@@ -1,23 +1,16 @@
 -- The number of blocks of a range.
-use Rattle.std.proofs.Common.{◌≡◌, ℕ, zero, suc, ◌+◌, ◌-◌, ◌*◌, ◌^◌, ◌<◌, ◌≤◌, ◌⊎◌, inl, inr, refl, ap, ◌∙◌, arith, ⊎_elim, List, [], ◌∷◌, ◌++◌, length, Bool, true, false, leb, cond}
-use Rattle.std.proofs.lemmas.Bool.{cases_lt, leb-true, and_parts}
-use Rattle.std.proofs.lemmas.List.{length-append}
-use Rattle.std.proofs.lemmas.Nat.{pow_pos}
-use Rattle.std.proofs.Math.Pow.{pow_mono}
-use Rattle.ipnetwork_family.specs.Network.{Network}
-use Rattle.ipnetwork_blocks.specs.LeastListLaws.{RangeHasAtMost, AllButTheEndsHasMost}
-use Rattle.ipnetwork_blocks.specs.Private.RangeList.{has_all, blocks_within, blocks_from_to}
-use Rattle.ipnetwork_blocks.specs.Ranges.{FromTo}
+use Rattle.ipnetwork_blocks.proofs.Words.{◌≡◌, ℕ, zero, suc, ◌+◌, ◌-◌, ◌*◌, ◌^◌, ◌<◌, ◌≤◌, ◌⊎◌, inl, inr, refl, ap, ◌∙◌, arith, ⊎_elim, List, [], ◌∷◌, ◌++◌, length, Bool, true, false, leb, cond, cases_lt, leb-true, and_parts, length-append, pow_pos, Network, has_all, blocks_within, blocks_from_to, FromTo}
 use Rattle.ipnetwork_blocks.proofs.BlocksFrom.{block_from, Begins, twice, lower_begins, upper_begins}
 use Rattle.ipnetwork_blocks.proofs.HalfParts.{PartOf, whole_part}
 use Rattle.ipnetwork_blocks.proofs.LeastLists.{least_unique, least_of_none}
-use Rattle.ipnetwork_blocks.proofs.RangeLists.{least_within, least_from_to}
+use Rattle.ipnetwork_blocks.proofs.RangeLists.{least_within}
 
 -- the number of blocks of the range that lie in the block with k host bits
 abbrev count : ℕ → ℕ → ℕ → ℕ → ℕ → ℕ
 count w k base first last = length (blocks_within w k base first last)
 
-has_not : (base size first last : ℕ) → (first ≤ base → base + size ≤ last + 1 → ⊥) → has_all base size first last ≡ false
+has_not : (base size first last : ℕ) → (first ≤ base → base + size ≤ last + 1 → ⊥)
+    → has_all base size first last ≡ false
 has_not base size first last fails = go (has_all base size first last) (λ t.
     let both = and_parts (leb first base) (leb (base + size) (last + 1)) t in
     fails (leb-true first base both.0) (leb-true (base + size) (last + 1) both.1))
@@ -27,12 +20,16 @@ has_not base size first last fails = go (has_all base size first last) (λ t.
     go false f = refl
 
 -- a block within the range counts as one, a block outside it as none, and any other block as the sum of its halves
-whole : (w k base first last : ℕ) → Begins w k base → first ≤ base → base + 2 ^ k ≤ last + 1 → count w k base first last ≡ 1
+whole : (w k base first last : ℕ) → Begins w k base → first ≤ base → base + 2 ^ k ≤ last + 1
+    → count w k base first last ≡ 1
 whole w k base first last h from to =
-    ap length (least_unique w (PartOf (FromTo first last) k base) (blocks_within w k base first last) (block_from w k base ∷ [])
-    (least_within w k base first last h) (whole_part (FromTo first last) w k base h (λ x l m. (omega arith, omega arith))))
+    ap length (least_unique w (PartOf (FromTo first last) k base) (blocks_within w k base first last)
+    (block_from w k base ∷ [])
+    (least_within w k base first last h)
+    (whole_part (FromTo first last) w k base h (λ x l m. (omega arith, omega arith))))
 
-outside : (w k base first last : ℕ) → Begins w k base → (last < base) ⊎ (base + 2 ^ k ≤ first) → count w k base first last ≡ 0
+outside : (w k base first last : ℕ) → Begins w k base → (last < base) ⊎ (base + 2 ^ k ≤ first)
+    → count w k base first last ≡ 0
 outside w k base first last h o =
     ap length (least_unique w (PartOf (FromTo first last) k base) (blocks_within w k base first last) []
     (least_within w k base first last h)
@@ -41,7 +38,8 @@ outside w k base first last h o =
     let b = p.0.1 in
     let c = p.1.0 in
     let d = p.1.1 in
-    ⊎_elim (λ (l : last < base). let r : ⊥ = omega arith in r) (λ (l : base + 2 ^ k ≤ first). let r : ⊥ = omega arith in r) o)))
+    ⊎_elim (λ (l : last < base). let r : ⊥ = omega arith in r)
+    (λ (l : base + 2 ^ k ≤ first). let r : ⊥ = omega arith in r) o)))
 
 split : (w k base first last : ℕ) → (first ≤ base → base + 2 ^ suc k ≤ last + 1 → ⊥)
     → count w (suc k) base first last ≡ count w k base first last + count w k (base + 2 ^ k) first last
@@ -49,7 +47,8 @@ unfolding blocks_within
 split w k base first last fails =
     let lower : List Network = blocks_within w k base first last in
     let upper : List Network = blocks_within w k (base + 2 ^ k) first last in
-    ap (λ t. length (cond t (block_from w (suc k) base ∷ []) (lower ++ upper))) (has_not base (2 ^ suc k) first last fails) ∙ length-append lower upper
+    ap (λ t. length (cond t (block_from w (suc k) base ∷ []) (lower ++ upper)))
+    (has_not base (2 ^ suc k) first last fails) ∙ length-append lower upper
 
 -- the halves of a block
 record HasHalves (w k base : ℕ) : Type 0 where
@@ -61,7 +60,8 @@ halved : (w k base : ℕ) → Begins w (suc k) base → HasHalves w k base
 halved w k base h = record { lower = lower_begins w k base h; upper = upper_begins w k base h; two = twice k }
 
 -- a block with which or after which the range ends: at most one block for each host bit
-count_to_end : (w k base first last : ℕ) → Begins w k base → base < first → base + 2 ^ k ≤ last + 1 → count w k base first last ≤ k
+count_to_end : (w k base first last : ℕ) → Begins w k base → base < first → base + 2 ^ k ≤ last + 1
+    → count w k base first last ≤ k
 count_to_end w zero base first last h from to = omega (arith, outside w 0 base first last h (inr (omega arith)))
 count_to_end w (suc k) base first last h from to =
     let half = halved w k base h in
@@ -78,7 +78,8 @@ count_to_end w (suc k) base first last h from to =
     (cases_lt (base + 2 ^ k) first)
 
 -- a block with which or before which the range begins: at most one block for each host bit
-count_from_start : (w k base first last : ℕ) → Begins w k base → first ≤ base → last + 1 < base + 2 ^ k → count w k base first last ≤ k
+count_from_start : (w k base first last : ℕ) → Begins w k base → first ≤ base → last + 1 < base + 2 ^ k
+    → count w k base first last ≤ k
 count_from_start w zero base first last h from to = omega (arith, outside w 0 base first last h (inl (omega arith)))
 count_from_start w (suc k) base first last h from to =
     let half = halved w k base h in
@@ -95,7 +96,8 @@ count_from_start w (suc k) base first last h from to =
     (cases_lt (last + 1) (base + 2 ^ k))
 
 -- any block: at most one block, or at most two less than twice the number of host bits
-count_within : (w k base first last : ℕ) → Begins w k base → (count w k base first last ≤ 1) ⊎ (count w k base first last + 2 ≤ 2 * k)
+count_within : (w k base first last : ℕ) → Begins w k base → (count w k base first last ≤ 1)
+    ⊎ (count w k base first last + 2 ≤ 2 * k)
 count_within w zero base first last h =
     ⊎_elim
     (λ (l : base < first). let e = outside w 0 base first last h (inr (omega arith)) in inl (omega arith))
@@ -108,7 +110,8 @@ count_within w (suc k) base first last h =
     let half = halved w k base h in
     let Goal : Type 0 = (count w (suc k) base first last ≤ 1) ⊎ (count w (suc k) base first last + 2 ≤ 2 * suc k) in
     let wider : (n : ℕ) → count w (suc k) base first last ≡ n → (n ≤ 1) ⊎ (n + 2 ≤ 2 * k) → Goal =
-    λ n e o. ⊎_elim (λ (l : n ≤ 1). let r : Goal = inl (omega arith) in r) (λ (l : n + 2 ≤ 2 * k). let r : Goal = inr (omega arith) in r) o in
+    λ n e o. ⊎_elim (λ (l : n ≤ 1). let r : Goal = inl (omega arith) in r)
+    (λ (l : n + 2 ≤ 2 * k). let r : Goal = inr (omega arith) in r) o in
     ⊎_elim
     (λ (l : last < base + 2 ^ k).
     let sum = split w k base first last (λ a b. let p = pow_pos k in let r : ⊥ = omega arith in r) in
@@ -142,7 +145,8 @@ count_within w (suc k) base first last h =
     (λ (l : base + 2 ^ k ≤ first).
     let sum = split w k base first last (λ a b. let p = pow_pos k in let r : ⊥ = omega arith in r) in
     let none = outside w k base first last half.lower (inr l) in
-    wider (count w k (base + 2 ^ k) first last) (omega (arith, sum, none)) (count_within w k (base + 2 ^ k) first last half.upper))
+    wider (count w k (base + 2 ^ k) first last) (omega (arith, sum, none))
+    (count_within w k (base + 2 ^ k) first last half.upper))
     (cases_lt first (base + 2 ^ k)))
     (cases_lt last (base + 2 ^ k))
   where
@@ -157,55 +161,5 @@ count_from_to w first last h =
     ⊎_elim
     (λ (l : count w w 0 first last ≤ 1). omega arith)
     (λ (l : count w w 0 first last + 2 ≤ 2 * w). omega arith)
-    (count_within w w 0 first last (record { times = 0; multiple = omega arith; bits = omega arith; fits = omega arith }))
-
--- a block that lies in the range except for its first or its last address: one block for each host bit
-all_but_the_first : (w k base last : ℕ) → Begins w k base → base + 2 ^ k ≤ last + 1 → count w k base (base + 1) last ≡ k
-all_but_the_first w zero base last h to = outside w 0 base (base + 1) last h (inr (omega arith))
-all_but_the_first w (suc k) base last h to =
-    let half = halved w k base h in
-    let pos = pow_pos k in
-    let sum = split w k base (base + 1) last (λ l m. let r : ⊥ = omega arith in r) in
-    let one = whole w k (base + 2 ^ k) (base + 1) last half.upper (omega arith) (omega arith) in
-    let some = all_but_the_first w k base last half.lower (omega arith) in
-    omega (arith, sum, one, some)
-
-all_but_the_last : (w k base first last : ℕ) → Begins w k base → first ≤ base → last + 2 ≡ base + 2 ^ k → count w k base first last ≡ k
-all_but_the_last w zero base first last h from to = outside w 0 base first last h (inl (omega arith))
-all_but_the_last w (suc k) base first last h from to =
-    let half = halved w k base h in
-    let pos = pow_pos k in
-    let sum = split w k base first last (λ l m. let r : ⊥ = omega arith in r) in
-    let one = whole w k base first last half.lower from (omega arith) in
-    let some = all_but_the_last w k (base + 2 ^ k) first last half.upper (omega arith) (omega arith) in
-    omega (arith, sum, one, some)
-
--- all addresses except the first and the last
-all_but_the_ends : (w : ℕ) → 2 ≤ w → length (blocks_from_to w 1 (2 ^ w - 2)) ≡ 2 * w - 2
-all_but_the_ends zero h = absurd (omega arith)
-all_but_the_ends (suc k) h =
-    let w : ℕ = suc k in
-    let last : ℕ = 2 ^ w - 2 in
-    let begins : Begins w w 0 = record { times = 0; multiple = omega arith; bits = omega arith; fits = omega arith } in
-    let half = halved w k 0 begins in
-    let some_bits : 1 ≤ k = omega (arith, h) in
-    let halves : 2 ^ 1 ≤ 2 ^ k = pow_mono some_bits in
-    let sum = split w k 0 1 last (λ l m. let r : ⊥ = omega arith in r) in
-    let some = all_but_the_first w k 0 last half.lower (omega (arith, half.two, halves)) in
-    let more = all_but_the_last w k (0 + 2 ^ k) 1 last half.upper (omega (arith, halves)) (omega (arith, half.two, halves)) in
-    omega (arith, sum, some, more)
-
--- ---- the laws
-
-pub range_has_at_most : RangeHasAtMost
-range_has_at_most w first last blocks bits fits h =
-    let e = ap length (least_unique w (FromTo first last) (blocks_from_to w first last) blocks (least_from_to w first last fits) h) in
-    let most = count_from_to w first last bits in
-    omega (arith, e, most)
-
-pub all_but_the_ends_has_most : AllButTheEndsHasMost
-all_but_the_ends_has_most w blocks bits h =
-    let pos = pow_pos w in
-    let e = ap length (least_unique w (FromTo 1 (2 ^ w - 2)) (blocks_from_to w 1 (2 ^ w - 2)) blocks (least_from_to w 1 (2 ^ w - 2) (omega (arith, pos))) h) in
-    let most = all_but_the_ends w bits in
-    omega (arith, e, most)
+    (count_within w w 0 first last
+    (record { times = 0; multiple = omega arith; bits = omega arith; fits = omega arith }))

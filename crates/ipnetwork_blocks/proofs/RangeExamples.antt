@@ -1,10 +1,5 @@
 -- Ranges and exclusions of 3-bit addresses that would reveal a misreading of the definitions.
-use Rattle.std.proofs.Common.{ℕ, refl, arith, [], ◌∷◌}
-use Rattle.ipnetwork_family.specs.Network.{Network, IsNetwork}
-use Rattle.ipnetwork_blocks.specs.LeastList.{IsLeastList}
-use Rattle.ipnetwork_blocks.specs.Ranges.{FromTo}
-use Rattle.ipnetwork_blocks.specs.Exclusion.{InDifference}
-use Rattle.ipnetwork_blocks.specs.Private.RangeList.{blocks_within}
+use Rattle.ipnetwork_blocks.proofs.Words.{ℕ, refl, arith, [], ◌∷◌, Network, IsNetwork, IsLeastList, FromTo, InDifference, blocks_within}
 use Rattle.ipnetwork_blocks.proofs.ExcludedParts.{least_around, least_before, least_behind}
 use Rattle.ipnetwork_blocks.proofs.LeastLists.{own_address, least_unique}
 use Rattle.ipnetwork_blocks.proofs.RangeLists.{least_from_to}

@@ -1,10 +1,5 @@
 -- The smallest block that contains two networks, in cases that would reveal a misreading of the definition.
-use Rattle.std.proofs.Common.{◌≡◌, ℕ, ◌^◌, ◌<◌, ◌≤◌, refl, arith, ⊎_elim, List, [], ◌∷◌}
-use Rattle.std.proofs.lemmas.Bool.{cases_lt}
-use Rattle.ipnetwork_family.specs.Bits.{SharesBits}
-use Rattle.ipnetwork_family.specs.Network.{Network, IsNetwork, Member}
-use Rattle.ipnetwork_family.proofs.Blocks.{coarser_size}
-use Rattle.ipnetwork_blocks.specs.Spanning.{IsSpanning}
+use Rattle.ipnetwork_blocks.proofs.Words.{◌≡◌, ℕ, ◌^◌, ◌<◌, ◌≤◌, refl, arith, ⊎_elim, List, [], ◌∷◌, cases_lt, SharesBits, Network, IsNetwork, Member, coarser_size, IsSpanning}
 use Rattle.ipnetwork_blocks.proofs.LeastLists.{contains_head, contains_tail}
 use Rattle.ipnetwork_blocks.proofs.SpanningBlock.{spans_both}
 
@@ -32,12 +27,14 @@ shared = record {
 -- the smallest block is 192.0.2.0/25
 pub half_spans : IsSpanning 32 quarters (net 3221225984 25)
 half_spans =
-    spans_both 32 25 25 (net 3221225984 26) (net 3221226061 26) (fits 3221225984 26 (omega arith) (omega arith)) (fits 3221226061 26 (omega arith) (omega arith)) shared refl
+    spans_both 32 25 25 (net 3221225984 26) (net 3221226061 26) (fits 3221225984 26 (omega arith) (omega arith))
+    (fits 3221226061 26 (omega arith) (omega arith)) shared refl
 
 -- a wider block is not the smallest,
 pub wider_does_not : ¬ (IsSpanning 32 quarters (net 3221225984 24))
 wider_does_not h =
-    let m : Member 32 (net 3221225984 25) 3221226239 = h.smallest (net 3221225984 25) (fits 3221225984 25 (omega arith) (omega arith)) half_spans.around 3221226239 (omega arith, refl) in
+    let m : Member 32 (net 3221225984 25) 3221226239 = h.smallest (net 3221225984 25)
+    (fits 3221225984 25 (omega arith) (omega arith)) half_spans.around 3221226239 (omega arith, refl) in
     let f : 25165829 ≡ 25165828 = m.1 in
     omega (arith, f)
 
@@ -45,7 +42,8 @@ wider_does_not h =
 pub narrower_does_not : ¬ (IsSpanning 32 quarters (net 3221225984 26))
 narrower_does_not h =
     let m : Member 32 (net 3221225984 26) 3221226048 =
-    h.around (net 3221226061 26) (contains_tail (net 3221225984 26) (net 3221226061 26 ∷ []) (net 3221226061 26) (contains_head (net 3221226061 26) [])) 3221226048 (omega arith, refl) in
+    h.around (net 3221226061 26) (contains_tail (net 3221225984 26) (net 3221226061 26 ∷ []) (net 3221226061 26)
+    (contains_head (net 3221226061 26) [])) 3221226048 (omega arith, refl) in
     let f : 50331657 ≡ 50331656 = m.1 in
     omega (arith, f)
 

@@ -1,14 +1,10 @@
 -- The union of a list of networks, by the structure of the list.
-use Rattle.std.proofs.Common.{◌≡◌, ◌↔◌, ◌⊎◌, inl, inr, sym, subst, ⊎_elim, List, ◌∷◌}
-use Rattle.std.specs.List.{Contains}
-use Rattle.ipnetwork_family.specs.Network.{Member}
-use Rattle.ipnetwork.specs.IpNetworks.{IpMember}
-use Rattle.ipnetwork_blocks.specs.AggregateIpLaws.{IpUnionOfNone, IpUnionOfList}
-use Rattle.ipnetwork_blocks.specs.AggregateLaws.{UnionOfNone, UnionOfList}
+use Rattle.ipnetwork_blocks.proofs.Words.{◌≡◌, ◌↔◌, ◌⊎◌, inl, inr, sym, subst, ⊎_elim, List, ◌∷◌, Contains, Member, UnionOfNone, UnionOfList}
 use Rattle.ipnetwork_blocks.proofs.LeastLists.{contains_cons, contains_head, contains_nil, contains_tail}
 
 -- an element of a list has a property exactly if the first does or one of the others does
-one_has : {X : Type 0} (Has : X → Type 0) (first : X) (others : List X) → ((n : X) × Contains (first ∷ others) n × Has n) ↔ (Has first ⊎ ((n : X) × Contains others n × Has n))
+one_has : {X : Type 0} (Has : X → Type 0) (first : X) (others : List X)
+    → ((n : X) × Contains (first ∷ others) n × Has n) ↔ (Has first ⊎ ((n : X) × Contains others n × Has n))
 one_has {X} Has first others = (
   (λ c. ⊎_elim
       (λ (e : first ≡ c.0). inl (subst Has (sym e) c.2))
@@ -23,9 +19,3 @@ union_of_none w x c = contains_nil c.0 c.1
 
 pub union_of_list : UnionOfList
 union_of_list w n others x = one_has (λ m. Member w m x) n others
-
-pub ip_union_of_none : IpUnionOfNone
-ip_union_of_none x c = contains_nil c.0 c.1
-
-pub ip_union_of_list : IpUnionOfList
-ip_union_of_list n others x = one_has (λ m. IpMember m x) n others

@@ -1,15 +1,11 @@
 -- The block that contains an address, and the halves of a block.
-use Rattle.std.proofs.Common.{◌≡◌, ◌≢◌, Option, None, Some, MatchOption, ℕ, zero, suc, ◌+◌, ◌-◌, ◌*◌, ◌/◌, ◌^◌, ◌<◌, ◌≤◌, ◌⊎◌, ◌↔◌, inl, inr, sym, refl, ap, subst, ◌∙◌, arith, ⊎_elim}
-use Rattle.std.proofs.Math.Nat.{div-mul-le_self, lt-div-mul-add}
-use Rattle.std.proofs.lemmas.Bool.{cases_lt}
-use Rattle.ipnetwork_family.specs.Network.{Network, IsNetwork, HostBitsAreZero, Member, Overlap, low, high, block_size, block_of}
-use Rattle.ipnetwork_family.proofs.Blocks.{div_within, size_pos, block_fits_too, block_begins, within_member, member_within, subnet_from, block_same_set}
-use Rattle.ipnetwork_blocks.specs.Supernets.{IsAround, IsSibling, parent}
+use Rattle.ipnetwork_blocks.proofs.Words.{◌≡◌, ◌≢◌, Option, None, Some, MatchOption, ℕ, zero, suc, ◌+◌, ◌-◌, ◌*◌, ◌/◌, ◌^◌, ◌<◌, ◌≤◌, ◌⊎◌, ◌↔◌, inl, inr, sym, refl, ap, subst, ◌∙◌, arith, ⊎_elim, div-mul-le_self, lt-div-mul-add, cases_lt, Network, IsNetwork, HostBitsAreZero, Member, Overlap, low, high, block_size, block_of, div_within, size_pos, block_fits_too, block_begins, within_member, member_within, subnet_from, block_same_set, IsAround, IsSibling, parent}
 use Rattle.ipnetwork_blocks.proofs.FollowingBlock.{block_low, high_after}
 use Rattle.ipnetwork_blocks.proofs.HalfBlocks.{size_half}
 
 -- the block of a shorter prefix length that contains the network
-pub around_made : (w p : ℕ) (n : Network) → IsNetwork w n → p ≤ n.prefix → IsAround w n p (block_of w (record { address = n.address; prefix = p }))
+pub around_made : (w p : ℕ) (n : Network) → IsNetwork w n → p ≤ n.prefix
+    → IsAround w n p (block_of w (record { address = n.address; prefix = p }))
 around_made w p n h le =
     let k : Network = record { address = n.address; prefix = p } in
     let kn : IsNetwork w k = record { address_fits = h.address_fits; prefix_fits = omega (arith, h.prefix_fits) } in
@@ -20,16 +16,19 @@ around_made w p n h le =
     }
 
 -- what making the block that contains the network returns
-pub supernet_answer : (w : ℕ) (n : Network) {X : Type 0} (pair : X → Network) (answer : Option X) (x p : ℕ) → IsNetwork w n → x ≡ n.address → p ≤ n.prefix
+pub supernet_answer : (w : ℕ) (n : Network) {X : Type 0} (pair : X → Network) (answer : Option X) (x p : ℕ)
+    → IsNetwork w n → x ≡ n.address → p ≤ n.prefix
     → MatchOption answer (w < p) (λ m. (p ≤ w) × (pair m ≡ block_of w (record { address = x; prefix = p })))
     → MatchOption answer (n.prefix < p) (λ m. (p ≤ n.prefix) × IsAround w n p (pair m))
 supernet_answer w n pair None x p net at le h = absurd (omega (arith, h, le, net.prefix_fits))
 supernet_answer w n pair (Some m) x p net at le h =
-    let made : pair m ≡ block_of w (record { address = n.address; prefix = p }) = h.1 ∙ ap (λ k. block_of w (record { address = k; prefix = p })) at in
+    let made : pair m ≡ block_of w (record { address = n.address; prefix = p }) = h.1
+    ∙ ap (λ k. block_of w (record { address = k; prefix = p })) at in
     (le, subst (λ (b : Network). IsAround w n p b) (sym made) (around_made w p n net le))
 
 -- the parent is twice as large as the network
-parent_size : (w : ℕ) (n : Network) → IsNetwork w n → 0 < n.prefix → block_size w (n.prefix - 1) ≡ block_size w n.prefix + block_size w n.prefix
+parent_size : (w : ℕ) (n : Network) → IsNetwork w n → 0 < n.prefix
+    → block_size w (n.prefix - 1) ≡ block_size w n.prefix + block_size w n.prefix
 parent_size w n h pos =
     let back : n.prefix - 1 + 1 ≡ n.prefix = omega arith in
     size_half w (n.prefix - 1) (omega (arith, h.prefix_fits)) ∙ ap (λ k. block_size w k + block_size w k) back
@@ -74,26 +73,32 @@ halves_apart w base s lower upper h o =
     let j = within_member w upper o.0 o.2 in
     omega (arith, i.1, j.0, h.lower_begins, h.lower_size, h.upper_begins)
 
-halves_whole : (w base s : ℕ) (lower upper b : Network) → Halves w base s lower upper → IsNetwork w b → low w b ≡ base → block_size w b.prefix ≡ s + s
+halves_whole : (w base s : ℕ) (lower upper b : Network) → Halves w base s lower upper → IsNetwork w b → low w b ≡ base
+    → block_size w b.prefix ≡ s + s
     → (x : ℕ) → Member w b x ↔ (Member w lower x ⊎ Member w upper x)
 halves_whole w base s lower upper b h net begins size x = (
   (λ m.
       let i = within_member w b x m in
       ⊎_elim
-      (λ (l : x < base + s). inl (member_within w lower h.lower_network x (omega (arith, i.0, begins, h.lower_begins)) (omega (arith, l, h.lower_begins, h.lower_size))))
-      (λ (ge : base + s ≤ x). inr (member_within w upper h.upper_network x (omega (arith, ge, h.upper_begins)) (omega (arith, i.1, begins, size, h.upper_begins, h.upper_size))))
+      (λ (l : x < base + s). inl (member_within w lower h.lower_network x (omega (arith, i.0, begins, h.lower_begins))
+      (omega (arith, l, h.lower_begins, h.lower_size))))
+      (λ (ge : base + s ≤ x). inr (member_within w upper h.upper_network x (omega (arith, ge, h.upper_begins))
+      (omega (arith, i.1, begins, size, h.upper_begins, h.upper_size))))
       (cases_lt x (base + s))),
   (λ m. ⊎_elim
       (λ (m : Member w lower x).
       let i = within_member w lower x m in
-      member_within w b net x (omega (arith, i.0, begins, h.lower_begins)) (omega (arith, i.1, begins, size, h.lower_begins, h.lower_size)))
+      member_within w b net x (omega (arith, i.0, begins, h.lower_begins))
+      (omega (arith, i.1, begins, size, h.lower_begins, h.lower_size)))
       (λ (m : Member w upper x).
       let i = within_member w upper x m in
-      member_within w b net x (omega (arith, i.0, begins, h.upper_begins)) (omega (arith, i.1, begins, size, h.upper_begins, h.upper_size))) m),
+      member_within w b net x (omega (arith, i.0, begins, h.upper_begins))
+      (omega (arith, i.1, begins, size, h.upper_begins, h.upper_size))) m),
 )
 
 -- a network and the other half of its parent
-pub sibling_from : (w : ℕ) (n b : Network) → IsNetwork w n → IsNetwork w b → 0 < n.prefix → b.prefix ≡ n.prefix → HostBitsAreZero w b
+pub sibling_from : (w : ℕ) (n b : Network) → IsNetwork w n → IsNetwork w b → 0 < n.prefix → b.prefix ≡ n.prefix
+    → HostBitsAreZero w b
     → ((low w n ≡ low w (parent w n)) × (low w b ≡ low w (parent w n) + block_size w n.prefix))
     ⊎ ((low w n ≡ low w (parent w n) + block_size w n.prefix) × (low w b ≡ low w (parent w n)))
     → IsSibling w n b
@@ -101,17 +106,37 @@ sibling_from w n b h k pos same begins halves =
     let s : ℕ = block_size w n.prefix in
     let base : ℕ = low w (parent w n) in
     let wide : Network = record { address = n.address; prefix = n.prefix - 1 } in
-    let net : IsNetwork w (parent w n) = block_fits_too w wide (record { address_fits = h.address_fits; prefix_fits = omega (arith, h.prefix_fits) }) in
+    let net : IsNetwork w (parent w n) =
+    block_fits_too w wide (record { address_fits = h.address_fits; prefix_fits = omega (arith, h.prefix_fits) }) in
     let size : block_size w b.prefix ≡ s = ap (block_size w) same in
     let double : block_size w (n.prefix - 1) ≡ s + s = parent_size w n h pos in
     ⊎_elim
     (λ (e : (low w n ≡ base) × (low w b ≡ base + s)).
     let both : Halves w base s n b =
-    record { lower_network = h; upper_network = k; lower_size = refl; upper_size = size; lower_begins = e.0; upper_begins = e.1 } in
-    record { block = record { network = k; block = begins }; as_long = same; apart = halves_apart w base s n b both; whole = halves_whole w base s n b (parent w n) both net refl double })
+    record {
+      lower_network = h;
+      upper_network = k;
+      lower_size = refl;
+      upper_size = size;
+      lower_begins = e.0;
+      upper_begins = e.1;
+    } in
+    record {
+      block = record { network = k; block = begins };
+      as_long = same;
+      apart = halves_apart w base s n b both;
+      whole = halves_whole w base s n b (parent w n) both net refl double;
+    })
     (λ (e : (low w n ≡ base + s) × (low w b ≡ base)).
     let both : Halves w base s b n =
-    record { lower_network = k; upper_network = h; lower_size = size; upper_size = refl; lower_begins = e.1; upper_begins = e.0 } in
+    record {
+      lower_network = k;
+      upper_network = h;
+      lower_size = size;
+      upper_size = refl;
+      lower_begins = e.1;
+      upper_begins = e.0;
+    } in
     record {
       block = record { network = k; block = begins };
       as_long = same;
@@ -124,20 +149,24 @@ sibling_from w n b h k pos same begins halves =
     })
     halves
 
-pub block_made : (w x p : ℕ) (n b : Network) → x ≡ n.address → p ≡ n.prefix → b ≡ block_of w (record { address = x; prefix = p }) → b ≡ block_of w n
+pub block_made : (w x p : ℕ) (n b : Network) → x ≡ n.address → p ≡ n.prefix
+    → b ≡ block_of w (record { address = x; prefix = p }) → b ≡ block_of w n
 block_made w x p n b at length made =
     let of : ℕ → ℕ → Network = λ address prefix. block_of w (record { address = address; prefix = prefix }) in
     made ∙ ap (λ k. of k p) at ∙ ap (of n.address) length
 
-pub parent_made : (w x p : ℕ) (n b : Network) → x ≡ n.address → p ≡ n.prefix → b ≡ block_of w (record { address = x; prefix = p - 1 }) → b ≡ parent w n
+pub parent_made : (w x p : ℕ) (n b : Network) → x ≡ n.address → p ≡ n.prefix
+    → b ≡ block_of w (record { address = x; prefix = p - 1 }) → b ≡ parent w n
 parent_made w x p n b at length made =
     let of : ℕ → ℕ → Network = λ address prefix. block_of w (record { address = address; prefix = prefix }) in
     made ∙ ap (λ k. of k (p - 1)) at ∙ ap (λ k. of n.address (k - 1)) length
 
 -- the block at an address in the other half of the parent
 sibling_at : (w x : ℕ) (n : Network) → IsNetwork w n → 0 < n.prefix → x < 2 ^ w
-    → ((low w n ≡ low w (parent w n)) × (low w (parent w n) + block_size w n.prefix ≤ x) × (x < low w (parent w n) + block_size w n.prefix + block_size w n.prefix))
-    ⊎ ((low w n ≡ low w (parent w n) + block_size w n.prefix) × (low w (parent w n) ≤ x) × (x < low w (parent w n) + block_size w n.prefix))
+    → ((low w n ≡ low w (parent w n)) × (low w (parent w n) + block_size w n.prefix ≤ x)
+    × (x < low w (parent w n) + block_size w n.prefix + block_size w n.prefix))
+    ⊎ ((low w n ≡ low w (parent w n) + block_size w n.prefix) × (low w (parent w n) ≤ x)
+    × (x < low w (parent w n) + block_size w n.prefix))
     → IsSibling w n (block_of w (record { address = x; prefix = n.prefix }))
 sibling_at w x n h pos fits within =
     let s : ℕ = block_size w n.prefix in
@@ -162,13 +191,15 @@ sibling_at w x n h pos fits within =
         ap (λ k. k * s) (div_within q s x (omega (arith, whole)) (omega (arith, whole))) ∙ whole
 
 -- what making the other half returns, given an address in it
-sibling_answer : (w : ℕ) (n : Network) {X : Type 0} (pair : X → Network) (answer : Option X) (x p : ℕ) → IsNetwork w n → p ≡ n.prefix → 0 < n.prefix
+sibling_answer : (w : ℕ) (n : Network) {X : Type 0} (pair : X → Network) (answer : Option X) (x p : ℕ) → IsNetwork w n
+    → p ≡ n.prefix → 0 < n.prefix
     → IsSibling w n (block_of w (record { address = x; prefix = n.prefix }))
     → MatchOption answer (w < p) (λ m. (p ≤ w) × (pair m ≡ block_of w (record { address = x; prefix = p })))
     → MatchOption answer (n.prefix ≡ 0) (λ m. (0 < n.prefix) × IsSibling w n (pair m))
 sibling_answer w n pair None x p net length pos is h = absurd (omega (arith, h, length, net.prefix_fits))
 sibling_answer w n pair (Some m) x p net length pos is h =
-    let made : pair m ≡ block_of w (record { address = x; prefix = n.prefix }) = h.1 ∙ ap (λ k. block_of w (record { address = x; prefix = k })) length in
+    let made : pair m ≡ block_of w (record { address = x; prefix = n.prefix }) = h.1
+    ∙ ap (λ k. block_of w (record { address = x; prefix = k })) length in
     (pos, subst (λ (b : Network). IsSibling w n b) (sym made) is)
 
 -- a network that is not the whole address space, its parent, and where the two end
@@ -186,8 +217,10 @@ module _ (w : ℕ) (n b : Network) (end last p : ℕ) (half_is : IsHalf w n b en
 
   at_end : end + 1 ≡ low w (parent w n) + block_size w n.prefix + block_size w n.prefix
   at_end =
-      let half : block_size w (n.prefix - 1) ≡ block_size w n.prefix + block_size w n.prefix = parent_size w n half_is.network longer in
-      ap (λ k. k + 1) (half_is.end_is ∙ ap (high w) half_is.parent_is) ∙ high_after w (parent w n) ∙ (omega (arith, half))
+      let half : block_size w (n.prefix - 1) ≡ block_size w n.prefix + block_size w n.prefix =
+      parent_size w n half_is.network longer in
+      ap (λ k. k + 1) (half_is.end_is ∙ ap (high w) half_is.parent_is) ∙ high_after w (parent w n)
+      ∙ (omega (arith, half))
 
   own_end : last + 1 ≡ low w n + block_size w n.prefix
   own_end = ap (λ k. k + 1) half_is.last_is ∙ high_after w n
@@ -202,11 +235,14 @@ module _ (w : ℕ) (n b : Network) (end last p : ℕ) (half_is : IsHalf w n b en
       let s_pos : 0 < s = size_pos w n.prefix in
       let Goal : Type 0 = IsSibling w n (block_of w (record { address = end; prefix = n.prefix })) in
       sibling_answer w n pair answer end p half_is.network half_is.as_long longer
-      (⊎_elim (λ (e : low w n ≡ base). sibling_at w end n half_is.network longer fits (inl (e, omega (arith, at_end, s_pos), omega (arith, at_end))))
-      (λ (e : low w n ≡ base + s). let r : Goal = absurd (differ (omega (arith, at_end, own_end, e))) in r) (half_begins w n half_is.network longer)) h
+      (⊎_elim (λ (e : low w n ≡ base). sibling_at w end n half_is.network longer fits
+      (inl (e, omega (arith, at_end, s_pos), omega (arith, at_end))))
+      (λ (e : low w n ≡ base + s). let r : Goal = absurd (differ (omega (arith, at_end, own_end, e))) in r)
+      (half_begins w n half_is.network longer)) h
 
   -- if the network ends where its parent does, the other half is the lower one
-  pub lower_answer : {X : Type 0} (pair : X → Network) (answer : Option X) (first : ℕ) → first < 2 ^ w → first ≡ low w b → last ≡ end
+  pub lower_answer : {X : Type 0} (pair : X → Network) (answer : Option X) (first : ℕ) → first < 2 ^ w → first ≡ low w b
+      → last ≡ end
       → MatchOption answer (w < p) (λ m. (p ≤ w) × (pair m ≡ block_of w (record { address = first; prefix = p })))
       → MatchOption answer (n.prefix ≡ 0) (λ m. (0 < n.prefix) × IsSibling w n (pair m))
   lower_answer pair answer first fits first_is same h =
@@ -217,4 +253,5 @@ module _ (w : ℕ) (n b : Network) (end last p : ℕ) (half_is : IsHalf w n b en
       let Goal : Type 0 = IsSibling w n (block_of w (record { address = first; prefix = n.prefix })) in
       sibling_answer w n pair answer first p half_is.network half_is.as_long longer
       (⊎_elim (λ (e : low w n ≡ base). let r : Goal = absurd (omega (arith, at_end, own_end, e, same, s_pos)) in r)
-      (λ (e : low w n ≡ base + s). sibling_at w first n half_is.network longer fits (inr (e, omega (arith, from), omega (arith, from, s_pos)))) (half_begins w n half_is.network longer)) h
+      (λ (e : low w n ≡ base + s). sibling_at w first n half_is.network longer fits
+      (inr (e, omega (arith, from), omega (arith, from, s_pos)))) (half_begins w n half_is.network longer)) h

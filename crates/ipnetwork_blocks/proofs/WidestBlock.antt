@@ -1,13 +1,5 @@
 -- The widest block that begins at the start of a range and ends within it.
-use Rattle.std.proofs.Common.{◌≡◌, ℕ, ◌+◌, ◌-◌, ◌*◌, ◌/◌, ◌%◌, ◌^◌, ◌<◌, ◌≤◌, ◌⊎◌, inl, inr, max, sym, ap, subst, ◌∙◌, arith, ⊎_elim}
-use Rattle.std.proofs.Math.Nat.{mod-eq-sub-div-mul, div-mul-le_self}
-use Rattle.std.proofs.lemmas.Bool.{cases_lt}
-use Rattle.std.proofs.lemmas.Nat.{pow_pos, pow-add}
-use Rattle.ipnetwork_family.specs.Bits.{SharesBits, EndsInZeros}
-use Rattle.ipnetwork_family.specs.Network.{low, high, block_size, block_at}
-use Rattle.ipnetwork_family.proofs.Blocks.{div_within, within_block, size_pos, multiple_begins}
-use Rattle.ipnetwork_blocks.specs.LeastList.{IsMaximalIn}
-use Rattle.ipnetwork_blocks.specs.Ranges.{FromTo}
+use Rattle.ipnetwork_blocks.proofs.Words.{◌≡◌, ℕ, ◌+◌, ◌-◌, ◌*◌, ◌/◌, ◌%◌, ◌^◌, ◌<◌, ◌≤◌, ◌⊎◌, inl, inr, max, sym, ap, subst, ◌∙◌, arith, ⊎_elim, mod-eq-sub-div-mul, div-mul-le_self, cases_lt, pow_pos, pow-add, SharesBits, EndsInZeros, low, high, block_size, block_at, div_within, within_block, size_pos, multiple_begins, IsMaximalIn, FromTo}
 use Rattle.ipnetwork_blocks.proofs.FollowingBlock.{block_low, block_high, high_after}
 use Rattle.ipnetwork_blocks.proofs.HalfBlocks.{size_half}
 use Rattle.ipnetwork_blocks.proofs.RangeLists.{widest_is_maximal}
@@ -37,20 +29,24 @@ begins w first zeros p h from to =
     let sum : (zeros - k) + k ≡ zeros = omega arith in
     let power : 2 ^ zeros ≡ 2 ^ (zeros - k) * 2 ^ k = ap (λ j. 2 ^ j) (sym sum) ∙ pow-add 2 (zeros - k) k in
     let q : ℕ = first / 2 ^ zeros in
-    let whole : first ≡ q * 2 ^ (zeros - k) * 2 ^ k = sym (no_rest first (2 ^ zeros) h.divides) ∙ ap (λ s. q * s) power ∙ (omega arith) in
+    let whole : first ≡ q * 2 ^ (zeros - k) * 2 ^ k = sym (no_rest first (2 ^ zeros) h.divides) ∙ ap (λ s. q * s) power
+    ∙ (omega arith) in
     ap (λ n. n / 2 ^ k * 2 ^ k) whole ∙ multiple_begins (2 ^ k) (q * 2 ^ (zeros - k)) (pow_pos k) ∙ sym whole
 
 -- no other block begins at that address
 pub begins_alone : (w first zeros p : ℕ) → EndsInZeros w first zeros → begin_at w first p ≡ first → w - zeros ≤ p
-begins_alone w first z p h e = let most = h.greatest (w - p) (omega arith) (no_rest_back first (block_size w p) e) in omega (arith, most)
+begins_alone w first z p h e = let most = h.greatest (w - p) (omega arith) (no_rest_back first (block_size w p) e) in
+    omega (arith, most)
 
 at_low : (w x p : ℕ) → low w (block_at w x p) ≡ begin_at w x p
 at_low w x p = block_low w (record { address = x; prefix = p })
 
 at_end : (w x p : ℕ) → high w (block_at w x p) + 1 ≡ begin_at w x p + block_size w p
-at_end w x p = ap (λ k. k + 1) (block_high w (record { address = x; prefix = p })) ∙ high_after w (record { address = x; prefix = p })
+at_end w x p = ap (λ k. k + 1) (block_high w (record { address = x; prefix = p }))
+    ∙ high_after w (record { address = x; prefix = p })
 
-module _ (w first last zeros shared p : ℕ) (e : AreEnds w first last zeros shared) (is : p ≡ max (w - zeros) shared) where
+module _ (w first last zeros shared p : ℕ) (e : AreEnds w first last zeros shared)
+    (is : p ≡ max (w - zeros) shared) where
   from : w - zeros ≤ p
   from = omega (arith, is)
 
@@ -58,7 +54,8 @@ module _ (w first last zeros shared p : ℕ) (e : AreEnds w first last zeros sha
   enough = omega (arith, is)
 
   either : (p ≡ w - zeros) ⊎ (p ≡ shared)
-  either = ⊎_elim (λ (l : w - zeros < shared). inr (omega (arith, is))) (λ (le : shared ≤ w - zeros). inl (omega (arith, is))) (cases_lt (w - zeros) shared)
+  either = ⊎_elim (λ (l : w - zeros < shared). inr (omega (arith, is)))
+      (λ (le : shared ≤ w - zeros). inl (omega (arith, is))) (cases_lt (w - zeros) shared)
 
   within : p ≤ w
   within = ⊎_elim (λ (a : p ≡ w - zeros). omega arith) (λ (b : p ≡ shared). omega (arith, e.bits_shared.within)) either
@@ -75,15 +72,18 @@ module _ (w first last zeros shared p : ℕ) (e : AreEnds w first last zeros sha
       let wide = begins_alone w first zeros (p - 1) e.zeros_end same in
       ⊎_elim (λ (a : p ≡ w - zeros). omega (arith, wide, a, pos))
       (λ (b : p ≡ shared).
-      let agree : last / block_size w p ≡ first / block_size w p = sym (subst (λ (k : ℕ). first / block_size w k ≡ last / block_size w k) (sym b) e.bits_shared.agree) in
+      let agree : last / block_size w p ≡ first / block_size w p =
+      sym (subst (λ (k : ℕ). first / block_size w k ≡ last / block_size w k) (sym b) e.bits_shared.agree) in
       let last_in = within_block (block_size w p) first last (size_pos w p) agree in
       let back : p - 1 + 1 ≡ p = omega arith in
-      let half : block_size w (p - 1) ≡ block_size w p + block_size w p = size_half w (p - 1) (omega (arith, within, pos)) ∙ ap (λ k. block_size w k + block_size w k) back in
+      let half : block_size w (p - 1) ≡ block_size w p + block_size w p =
+      size_half w (p - 1) (omega (arith, within, pos)) ∙ ap (λ k. block_size w k + block_size w k) back in
       omega (arith, last_in.1, lies.1, at_end w first (p - 1), same, half, at_first, size_pos w p))
       either
 
   pub widest_fits : high w (block_at w first p) ≤ last → IsMaximalIn w (FromTo first last) (block_at w first p)
-  widest_fits ends = widest_is_maximal w first last p e.first_fits within (omega (arith, at_low w first p, at_first)) ends (none_wider ends)
+  widest_fits ends = widest_is_maximal w first last p e.first_fits within (omega (arith, at_low w first p, at_first))
+      ends (none_wider ends)
 
   -- if the prefix is longer than the bits that both share, the block ends before or at the last address
   pub ends_within : shared < p → high w (block_at w first p) ≤ last
@@ -91,7 +91,8 @@ module _ (w first last zeros shared p : ℕ) (e : AreEnds w first last zeros sha
       let s : ℕ = block_size w p in
       ⊎_elim
       (λ (inside : last < first + s).
-      let agree : last / s ≡ first / s = div_within (first / s) s last (omega (arith, at_first, e.order)) (omega (arith, at_first, inside)) in
+      let agree : last / s ≡ first / s = div_within (first / s) s last (omega (arith, at_first, e.order))
+      (omega (arith, at_first, inside)) in
       let most = e.bits_shared.greatest p within (sym agree) in
       let r : high w (block_at w first p) ≤ last = absurd (omega (arith, most, more)) in r)
       (λ (outside : first + s ≤ last). omega (arith, at_end w first p, at_first, outside))
@@ -110,23 +111,29 @@ module _ (w first last zeros shared p : ℕ) (e : AreEnds w first last zeros sha
   half_within late =
       let narrow : p < w = not_whole late in
       let half : block_size w p ≡ block_size w (p + 1) + block_size w (p + 1) = size_half w p narrow in
-      let begin : begin_at w first (p + 1) ≡ first = begins w first zeros (p + 1) e.zeros_end (omega (arith, from)) (omega (arith, narrow)) in
+      let begin : begin_at w first (p + 1) ≡ first = begins w first zeros (p + 1) e.zeros_end (omega (arith, from))
+      (omega (arith, narrow)) in
       let s : ℕ = block_size w (p + 1) in
       ⊎_elim
       (λ (inside : last < first + s).
-      let agree : last / s ≡ first / s = div_within (first / s) s last (omega (arith, begin, e.order)) (omega (arith, begin, inside)) in
+      let agree : last / s ≡ first / s = div_within (first / s) s last (omega (arith, begin, e.order))
+      (omega (arith, begin, inside)) in
       let more = e.bits_shared.greatest (p + 1) (omega (arith, narrow)) (sym agree) in
       let r : high w (block_at w first (p + 1)) ≤ last = absurd (omega (arith, more, enough)) in r)
       (λ (outside : first + s ≤ last). omega (arith, at_end w first (p + 1), begin, outside))
       (cases_lt last (first + s))
 
-  pub widest_half : last < high w (block_at w first p) → (p + 1 ≤ w) × (begin_at w first (p + 1) ≡ first) × IsMaximalIn w (FromTo first last) (block_at w first (p + 1))
+  pub widest_half : last < high w (block_at w first p) → (p + 1 ≤ w) × (begin_at w first (p + 1) ≡ first)
+      × IsMaximalIn w (FromTo first last) (block_at w first (p + 1))
   widest_half late =
       let narrow : p < w = not_whole late in
-      let begin : begin_at w first (p + 1) ≡ first = begins w first zeros (p + 1) e.zeros_end (omega (arith, from)) (omega (arith, narrow)) in
+      let begin : begin_at w first (p + 1) ≡ first = begins w first zeros (p + 1) e.zeros_end (omega (arith, from))
+      (omega (arith, narrow)) in
       let back : p + 1 - 1 ≡ p = omega arith in (
         omega (arith, narrow),
         begin,
-        widest_is_maximal w first last (p + 1) e.first_fits (omega (arith, narrow)) (omega (arith, at_low w first (p + 1), begin)) (half_within late)
-            (λ pos lies. let whole = subst (λ (k : ℕ). high w (block_at w first k) ≤ last) back lies.1 in omega (arith, whole, late)),
+        widest_is_maximal w first last (p + 1) e.first_fits (omega (arith, narrow))
+            (omega (arith, at_low w first (p + 1), begin)) (half_within late)
+            (λ pos lies. let whole = subst (λ (k : ℕ). high w (block_at w first k) ≤ last) back lies.1 in
+            omega (arith, whole, late)),
       )

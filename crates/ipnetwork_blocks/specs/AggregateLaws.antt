@@ -47,14 +47,3 @@ abbrev pub AggregateIsLeast : Type 0
 AggregateIsLeast = (w : ℕ) (networks blocks others : List Network) → IsAggregate w networks blocks
     → All (IsNetwork w) others → SameUnion w others networks
     → length blocks ≤ length others
-
--- two lists of networks have the same aggregate exactly if they have the same union
-abbrev pub AggregateIsOfUnion : Type 0
-AggregateIsOfUnion = (w : ℕ) (networks others blocks other_blocks : List Network) → IsAggregate w networks blocks
-    → IsAggregate w others other_blocks
-    → SameUnion w networks others ↔ (blocks ≡ other_blocks)
-
--- an aggregate is its own aggregate
-abbrev pub AggregateIsItsOwn : Type 0
-AggregateIsItsOwn = (w : ℕ) (networks blocks again : List Network) → IsAggregate w networks blocks
-    → IsAggregate w blocks again → blocks ≡ again

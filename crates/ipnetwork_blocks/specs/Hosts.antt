@@ -1,7 +1,6 @@
 -- The addresses that the hosts of a network may have.
-use Rattle.std.specs.Prelude.{◌≡◌, ◌≢◌, ℕ, ◌≤◌, ◌↔◌, List, [], ◌∷◌, ◌++◌, Contains}
-use Rattle.std.specs.List.Sorted.{IsStrictlyIncreasing}
-use Rattle.ipnetwork_family.specs.Network.{Network, IsNetwork, Member, members, low, high}
+use Rattle.std.specs.Prelude.{◌≡◌, ℕ, ◌≤◌, List, [], ◌∷◌, ◌++◌}
+use Rattle.ipnetwork_family.specs.Network.{Network, members, low, high}
 
 -- the hosts of an IPv4 network: all members except the first and the last up to prefix length 30, and all members at 31
 -- and 32 (RFC 3021)
@@ -14,18 +13,3 @@ pub record AreIpv4Hosts (n : Network) (hosts : List ℕ) : Type 0 where
 pub record AreIpv6Hosts (n : Network) (hosts : List ℕ) : Type 0 where
   pub inner : n.prefix ≤ 126 → members 128 n ≡ low 128 n ∷ hosts
   pub whole : 127 ≤ n.prefix → members 128 n ≡ hosts
-
--- the list is strictly ascending and contains exactly the numbers with the property
-pub record ListsThose (Is : ℕ → Type 0) (hosts : List ℕ) : Type 0 where
-  pub ascending : IsStrictlyIncreasing hosts
-  pub exactly : (x : ℕ) → Contains hosts x ↔ Is x
-
--- the hosts of an IPv4 network are its members, except the lowest and the highest up to prefix length 30
-abbrev pub Ipv4HostsLaw : Type 0
-Ipv4HostsLaw = (n : Network) (hosts : List ℕ) → IsNetwork 32 n → AreIpv4Hosts n hosts
-    → ListsThose (λ x. Member 32 n x × (n.prefix ≤ 30 → (x ≢ low 32 n) × (x ≢ high 32 n))) hosts
-
--- the hosts of an IPv6 network are its members, except the lowest up to prefix length 126
-abbrev pub Ipv6HostsLaw : Type 0
-Ipv6HostsLaw = (n : Network) (hosts : List ℕ) → IsNetwork 128 n → AreIpv6Hosts n hosts
-    → ListsThose (λ x. Member 128 n x × (n.prefix ≤ 126 → x ≢ low 128 n)) hosts

@@ -11,6 +11,5 @@ pub mod PrecedingBlock
 pub mod Private
 pub mod Ranges
 pub mod Spanning
-pub mod SubnetLaws
 pub mod Subnets
 pub mod Supernets

@@ -142,11 +142,18 @@ fn ends_behind<N: AddressSpace>(network: N, address: N::Addr) -> bool
     address < network.broadcast()
 }
 
-// Returns the widest block that begins at `first` and does not end after `last`. If `first` has
-// fewer trailing zeros than there are bits after those that it shares with `last`, it is the block
-// with these zeros as host bits. Otherwise it is the smallest block that contains both if that ends
-// at `last`, or else the lower half of that block.
-fn widest_block<N: AddressSpace>(first: N::Addr, last: N::Addr) -> N
+/// Returns the widest block that begins at `first` and does not end after `last`: the first of the
+/// blocks that [`range_to_blocks`] returns. `first` must not come after `last`.
+///
+/// If `first` has fewer trailing zeros than there are bits after those that it shares with `last`,
+/// it is the block with these zeros as host bits. Otherwise it is the smallest block that contains
+/// both if that ends at `last`, or else the lower half of that block.
+///
+/// ```
+/// let block = widest_block::<Ipv4Network>("192.0.2.2".parse()?, "192.0.2.9".parse()?);
+/// assert_eq!(rt; block, "192.0.2.2/31".parse()?);
+/// ```
+pub fn widest_block<N: AddressSpace>(first: N::Addr, last: N::Addr) -> N
     requires { N.number first ≤ N.number last }
     ensures begins { (N.pair result).address ≡ N.number first }
     ensures maximal { IsMaximalIn N.WIDTH (FromTo (N.number first) (N.number last))

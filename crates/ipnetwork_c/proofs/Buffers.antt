@@ -1,8 +1,8 @@
 -- A text and a zero byte at the front of a buffer.
-use Rattle.std.proofs.Common.{◌≡◌, ℕ, ◌+◌, ◌<◌, List, ◌∷◌, ◌++◌, length, drop, slice_set, ap, sym, add-one, ◌∙◌, drop-cons}
-use Rattle.std.proofs.Math.Seq.{set-append_seam}
+use Rattle.ipnetwork_c.proofs.Words.{◌≡◌, ℕ, ◌+◌, ◌<◌, List, ◌∷◌, ◌++◌, length, drop, slice_set, ap, sym, add-one, ◌∙◌, drop-cons, set-append_seam}
 
-pub zero_behind : (text before : List ℕ) → length text < length before → slice_set (text ++ drop (length text) before) (length text) 0 ≡ text ++ 0 ∷ drop (length text + 1) before
+pub zero_behind : (text before : List ℕ) → length text < length before
+    → slice_set (text ++ drop (length text) before) (length text) 0 ≡ text ++ 0 ∷ drop (length text + 1) before
 zero_behind text before room =
     ap (λ rest. slice_set (text ++ rest) (length text) 0) (drop-cons before (length text) 0 room)
     ∙ set-append_seam text _ _ 0

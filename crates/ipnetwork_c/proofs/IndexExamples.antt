@@ -1,15 +1,5 @@
 -- Indexes of a list of two networks, and their parts: with another number they are no indexes of the list.
-use Rattle.std.proofs.Common.{◌≡◌, ℕ, zero, suc, ◌+◌, ◌*◌, ◌/◌, ◌^◌, ◌<◌, ◌≤◌, List, [], ◌∷◌, length, map, get_or, refl, subst, arith}
-use Rattle.std.specs.Prelude.{min}
-use Rattle.std.proofs.Math.Pow.{pow-lt}
-use Rattle.std.proofs.lemmas.Nat.{pow_pos, le-div}
-use Rattle.ipnetwork_family.specs.Network.{Network}
-use Rattle.ipnetwork_c.specs.Numbers.{ok, short_buffer}
-use Rattle.ipnetwork_c.specs.Held.{number_of_octets}
-use Rattle.ipnetwork_c.specs.Outcomes.Unless.{On, Nothing}
-use Rattle.ipnetwork_c.specs.Columns.{AnswersEach}
-use Rattle.ipnetwork_c.specs.Lists.{SetQuery}
-use Rattle.ipnetwork_c.specs.Indexes.{address_at, span, AreLeastParts, BeginBefore, IsIndexOf, MakesIndex, SetRows}
+use Rattle.ipnetwork_c.proofs.Words.{◌≡◌, ℕ, zero, suc, ◌+◌, ◌*◌, ◌/◌, ◌^◌, ◌<◌, ◌≤◌, List, [], ◌∷◌, length, map, get_or, refl, subst, arith, min, pow-lt, pow_pos, le-div, Network, ok, short_buffer, number_of_octets, On, Nothing, AnswersEach, SetQuery, address_at, span, AreLeastParts, BeginBefore, IsIndexOf, MakesIndex, SetRows}
 
 abbrev two : List Network
 two = record { address = 10; prefix = 128 } ∷ record { address = 20; prefix = 128 } ∷ []
@@ -17,7 +7,8 @@ two = record { address = 10; prefix = 128 } ∷ record { address = 20; prefix = 
 pub one_begins_before_18 : (i : ℕ) → BeginBefore two 18 i → i ≡ 1
 one_begins_before_18 zero h = let n = h.next (record { address = 10; prefix = 128 }) refl in absurd (omega (arith, n))
 one_begins_before_18 (suc zero) h = refl
-one_begins_before_18 (suc (suc zero)) h = let l = h.last (record { address = 20; prefix = 128 }) (omega arith) refl in absurd (omega (arith, l))
+one_begins_before_18 (suc (suc zero)) h = let l = h.last (record { address = 20; prefix = 128 }) (omega arith) refl in
+    absurd (omega (arith, l))
 one_begins_before_18 (suc (suc (suc i))) h = absurd (omega (arith, h.within))
 
 -- a network that begins at the number does not begin before it
@@ -41,7 +32,8 @@ the_index_of_two size start h = (shift_is, start_is)
     start_is : start ≡ 1
     start_is =
         let one = h.starts 1 (omega arith) (omega arith) in
-        let begins : BeginBefore two 18 one.0 = subst (λ (k : ℕ). BeginBefore two (10 + 1 * 2 ^ k) one.0) shift_is one.1 in
+        let begins : BeginBefore two 18 one.0 =
+        subst (λ (k : ℕ). BeginBefore two (10 + 1 * 2 ^ k) one.0) shift_is one.1 in
         let i : one.0 ≡ 1 = one_begins_before_18 one.0 begins in
         let is : start ≡ min one.0 4294967295 = one.2 in
         omega (arith, i, is)
@@ -67,7 +59,8 @@ one_part_has_all_addresses size h =
     let parts : AreLeastParts ends 1 size = h.size (omega arith) in
     let not_less : ¬ (size < 128) = λ less.
     let power : 2 ^ size < 0x100000000000000000000000000000000 = pow-lt less in
-    let some : 1 ≤ 0xffffffffffffffffffffffffffffffff / 2 ^ size = le-div 1 0xffffffffffffffffffffffffffffffff (2 ^ size) (pow_pos size) (omega (arith, power)) in
+    let some : 1 ≤ 0xffffffffffffffffffffffffffffffff / 2 ^ size =
+    le-div 1 0xffffffffffffffffffffffffffffffff (2 ^ size) (pow_pos size) (omega (arith, power)) in
     let enough : 0xffffffffffffffffffffffffffffffff / 2 ^ size < 1 = parts.enough in
     omega (arith, some, enough)
     in
@@ -75,18 +68,22 @@ one_part_has_all_addresses size h =
     omega (arith, not_less, not_more)
 
 -- each row of a column has its own answer, and without room no answer is written
-pub rows_without_room_have_no_answer : {C : Type 0} (w : ℕ) (held : C → Network) (list : List C) (asked : List (List ℕ)) (before after : List ℕ × List ℕ) → SetRows w held list asked before after short_buffer
+pub rows_without_room_have_no_answer : {C : Type 0} (w : ℕ) (held : C → Network) (list : List C) (asked : List (List ℕ))
+    (before after : List ℕ × List ℕ) → SetRows w held list asked before after short_buffer
     → ¬ ((length asked ≤ length before.0) × (length asked ≤ length before.1)) × (after ≡ before)
 rows_without_room_have_no_answer w held list asked before after (On (room, (is, rows))) = absurd (omega (arith, is))
 rows_without_room_have_no_answer w held list asked before after (Nothing (none, is) same) = (none, same)
 
-pub rows_with_room_have_answers : {C : Type 0} (w : ℕ) (held : C → Network) (list : List C) (asked : List (List ℕ)) (before after : List ℕ × List ℕ) → SetRows w held list asked before after ok
-    → AnswersEach (λ i. SetQuery w held list (number_of_octets (get_or asked i []))) (length asked) before.0 after.0 before.1 after.1
+pub rows_with_room_have_answers : {C : Type 0} (w : ℕ) (held : C → Network) (list : List C) (asked : List (List ℕ))
+    (before after : List ℕ × List ℕ) → SetRows w held list asked before after ok
+    → AnswersEach (λ i. SetQuery w held list (number_of_octets (get_or asked i []))) (length asked) before.0 after.0
+    before.1 after.1
 rows_with_room_have_answers w held list asked before after (On (room, (is, rows))) = rows
 rows_with_room_have_answers w held list asked before after (Nothing (none, is) same) = absurd (omega (arith, is))
 
 -- an index is written over the whole of its memory, and no further
-pub an_index_keeps_its_length : {C : Type 0} (held : C → Network) (list : List C) (before after : List ℕ) (code : ℕ) → MakesIndex held list before after code → (code ≡ ok) × (length after ≡ length before)
+pub an_index_keeps_its_length : {C : Type 0} (held : C → Network) (list : List C) (before after : List ℕ) (code : ℕ)
+    → MakesIndex held list before after code → (code ≡ ok) × (length after ≡ length before)
 an_index_keeps_its_length held list before after code h = (h.0, h.1.0)
 
 pub addresses_at_places : map (address_at two) (0 ∷ 1 ∷ 2 ∷ []) ≡ 10 ∷ 20 ∷ 0 ∷ []

@@ -1,13 +1,6 @@
 -- The number of members of a network, and the position of each in their list.
-use Rattle.std.proofs.Common.{◌≡◌, ℕ, ◌+◌, ◌/◌, ◌%◌, ◌^◌, ◌<◌, List, [], ◌∷◌, ◌++◌, length, Some, arith, ap, sym, ◌∙◌}
-use Rattle.std.proofs.lemmas.Int.Digits.{number_push}
-use Rattle.std.proofs.lemmas.Option.{slice_get-get_or}
-use Rattle.ipnetwork_family.specs.Network.{Network, low, high, block_size, members}
-use Rattle.ipnetwork_family.proofs.Blocks.{size_pos}
-use Rattle.ipnetwork_family.proofs.Members.{length-count_up, get_or-count_up}
-use Rattle.ipnetwork_addr.specs.Digits.{octets_of_v6}
-use Rattle.ipnetwork_c.specs.Answers.{IsNth}
-use Rattle.ipnetwork_c.specs.Held.{number_of_octets}
+use Rattle.ipnetwork_c.proofs.Words.{◌≡◌, ℕ, ◌+◌, ◌/◌, ◌%◌, ◌^◌, ◌<◌, List, [], ◌∷◌, ◌++◌, length, arith, ap, sym, ◌∙◌, number_push, slice_get-get_or, Network, low, high, block_size, members, size_pos, length-count_up, get_or-count_up, octets_of_v6, IsNth, number_of_octets}
+use Rattle.std.proofs.Common.{Some}
 use Rattle.ipnetwork_c.proofs.Octets.{number_again}
 
 pub ends_apart : (w : ℕ) (n : Network) → low w n + length (members w n) ≡ high w n + 1
@@ -20,10 +13,12 @@ pub nth_from_least : (w : ℕ) (n : Network) (i x : ℕ) → i < length (members
 nth_from_least w n i x below is =
     let size = length-count_up (low w n) (block_size w n.prefix) in
     let fits : i < block_size w n.prefix = omega (arith, below, size) in
-    slice_get-get_or (members w n) i 0 below ∙ ap Some (get_or-count_up (low w n) (block_size w n.prefix) i 0 fits ∙ sym is)
+    slice_get-get_or (members w n) i 0 below
+    ∙ ap Some (get_or-count_up (low w n) (block_size w n.prefix) i 0 fits ∙ sym is)
 
 -- one more than a number, as all its octets but the last, and the last
-pub next_in_octets : (last high : ℕ) (front octets : List ℕ) → last < 2 ^ 128 → high ≡ last / 256 + (last % 256 + 1) / 256 → front ≡ octets_of_v6 high → octets ≡ front ++ (last % 256 + 1) % 256 ∷ [] → number_of_octets octets ≡ last + 1
+pub next_in_octets : (last high : ℕ) (front octets : List ℕ) → last < 2 ^ 128 → high ≡ last / 256 + (last % 256 + 1) /
+    256 → front ≡ octets_of_v6 high → octets ≡ front ++ (last % 256 + 1) % 256 ∷ [] → number_of_octets octets ≡ last + 1
 next_in_octets last high front octets fits high_is front_is is =
     let small : high < 2 ^ 128 = omega (arith, fits, high_is) in
     let front_number = ap number_of_octets front_is ∙ number_again 16 high small in

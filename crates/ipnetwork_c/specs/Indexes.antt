@@ -44,7 +44,8 @@ pub record IsIndexOf (networks : List Network) (index : List ℕ) : Type 0 where
 abbrev pub MakesIndex : {C : Type 0} → (C → Network) → List C → List ℕ → List ℕ → ℕ → Type 0
 MakesIndex held list before = Writes (λ index. (length index ≡ length before) × IsIndexOf (map held list) index) before
 
--- the same if the list is that of a set; else the index memory is unchanged, with `prefix` if a prefix length is greater
+-- the same if the list is that of a set; else the index memory is unchanged, with `prefix` if a prefix length is
+-- greater
 -- than w, and otherwise `no_set`
 abbrev pub MakesSetIndex : {C : Type 0} → ℕ → (C → Network) → List C → List ℕ → List ℕ → ℕ → Type 0
 MakesSetIndex w held list = IfFit (All (λ c. PrefixFits w (held c)) list)

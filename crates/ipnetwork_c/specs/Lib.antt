@@ -13,7 +13,4 @@ pub mod Indexes
 pub mod Ranges
 pub mod TextColumns
 pub mod PrintedColumns
-pub mod ColumnLaws
-pub mod StructLaws
-pub mod TextLaws
 pub mod Private

@@ -99,27 +99,3 @@ RangeQuery held ranges places x before after code =
 abbrev pub RangeRows : {C : Type 0} → (C → Network) → List C → List ℕ → List (List ℕ) → List ℕ × List ℕ → List ℕ
     × List ℕ → ℕ → Type 0
 RangeRows held ranges places = AsksEach [] (λ octets. RangeQuery held ranges places (number_of_octets octets))
-
--- the place found by the ranges of a list is that of the longest network of the list that has the address
-abbrev pub PlacesAreOfTheLongest : {C : Type 0} → ℕ → (C → Network) → Type 0
-PlacesAreOfTheLongest {C} w held =
-    (list ranges : List C) (places : List ℕ) (x place : ℕ) → AreRangesOf w (map held list) (map held ranges) places
-    → x < 2 ^ w
-    → PlaceQuery held ranges places x place → IsLongestAt w (map held list) x place
-
--- a search by the ranges of a list finds the longest network of the list that has the address
-abbrev pub RangesFindTheLongest : {C : Type 0} → ℕ → (C → Network) → Type 0
-RangesFindTheLongest {C} w held =
-    (list ranges : List C) (places : List ℕ) (x before after code : ℕ)
-    → AreRangesOf w (map held list) (map held ranges) places → x < 2 ^ w
-    → RangeQuery held ranges places x before after code
-    → Unless (IsFault no_member (IsTable w (map held list) → ¬ (InUnion w (map held list) x)))
-    (Writes (FindsLongest w (map held list) x)) before after code
-
--- the number found by the numbered ranges of a list is that of the longest network of the list that has the address
-abbrev pub NumbersAreOfTheLongest : {C : Type 0} → ℕ → (C → Network) → Type 0
-NumbersAreOfTheLongest {C} w held =
-    (list ranges : List C) (numbers places : List ℕ) (x number : ℕ) → length numbers ≤ no_place
-    → AreRangesOf w (map held list) (map held ranges) places → x < 2 ^ w
-    → PlaceQuery held ranges (map (number_at numbers) places) x number
-    → (place : ℕ) × IsLongestAt w (map held list) x place × (number ≡ number_at numbers place)

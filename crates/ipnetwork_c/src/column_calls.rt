@@ -95,40 +95,9 @@ pub extern "C" fn ipnetwork_v6_index_contains_column(
     OK
 }
 
-/// For each address, finds the index of the longest block of a table that has it: index i and fault
-/// i are what `ipnetwork_v4_table_find` leaves and returns for address i. An address without a
-/// block does not stop the call. The rest of `indexes` and `faults` is unchanged. Returns
-/// `SHORT_BUFFER` if there are fewer indexes or faults than addresses.
-#[unsafe(no_mangle)]
-pub extern "C" fn ipnetwork_v4_table_find_column(
-    blocks: &[Ipv4InC],
-    addresses: &[[u8; 4]],
-    indexes: &mut [usize],
-    faults: &mut [u8],
-) -> u32
-    ensures { TableRows 32 v4_in blocks.now addresses.now (indexes.old, faults.old)
-        (indexes.new, faults.new) result }
-{
-    table_find_each::<Ipv4Network, Ipv4InC>(blocks, &[], addresses, indexes, faults)
-}
-
-/// The same for IPv6, by `ipnetwork_v6_table_find`.
-#[unsafe(no_mangle)]
-pub extern "C" fn ipnetwork_v6_table_find_column(
-    blocks: &[Ipv6InC],
-    addresses: &[[u8; 16]],
-    indexes: &mut [usize],
-    faults: &mut [u8],
-) -> u32
-    ensures { TableRows 128 v6_in blocks.now addresses.now (indexes.old, faults.old)
-        (indexes.new, faults.new) result }
-{
-    table_find_each::<Ipv6Network, Ipv6InC>(blocks, &[], addresses, indexes, faults)
-}
-
 /// For each address, finds the place of the longest block of a table that has it, by an index of
-/// the table: place i and fault i are what `ipnetwork_v4_index_find` leaves and returns for address
-/// i. An address without a block does not stop the call. The rest of `places` and `faults` is
+/// the table, or by none: place i and fault i are what `ipnetwork_v4_index_find` leaves and returns
+/// for address i. An address without a block does not stop the call. The rest of `places` and `faults` is
 /// unchanged. Returns `SHORT_BUFFER` if there are fewer places or faults than addresses.
 #[unsafe(no_mangle)]
 pub extern "C" fn ipnetwork_v4_index_find_column(

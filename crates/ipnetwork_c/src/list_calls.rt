@@ -1,13 +1,9 @@
 //! The calls for lists of networks in the caller's memory: searches for an address, operations on
 //! sets, and the blocks of a range of addresses.
-ghost use Rattle.std.specs.Prelude.{All, Any};
-ghost use Rattle.ipnetwork_family.specs.Network.{Member};
 ghost use Rattle.ipnetwork_sets.specs.Sets.{InEither, InBoth, InFirstAlone};
-ghost use Rattle.ipnetwork_c.specs.Answers.{IfFit, IsFlag};
 ghost use Rattle.ipnetwork_c.specs.Blocks.{RangeOperation};
-ghost use Rattle.ipnetwork_c.specs.Held.{v4_in, v6_in, PrefixFits, number_of_octets};
+ghost use Rattle.ipnetwork_c.specs.Held.{v4_in, v6_in, number_of_octets};
 ghost use Rattle.ipnetwork_c.specs.Lists.{SetQuery};
-ghost use Rattle.ipnetwork_c.specs.Outcomes.{Writes};
 ghost use Rattle.ipnetwork_c.specs.Ranges.{PlaceQuery, RangeQuery};
 ghost use Rattle.ipnetwork_c.specs.Sets.{SetOperation};
 ghost use Rattle.ipnetwork_c.specs.Tables.{TableQuery};
@@ -15,72 +11,15 @@ ghost use Rattle.ipnetwork_c.specs.Tables.{TableQuery};
 use crate::block_calls::range;
 use crate::set_operations::{Operation, operate};
 use crate::structs::{Ipv4InC, Ipv6InC, PlaceInC, address_of};
-use crate::{lists, ranges, sets, tables};
+use crate::{ranges, sets, tables};
 use ipnetwork::{Ipv4Addr, Ipv4Network, Ipv6Network};
-
-/// Writes to `answer` 1 if an address is in one of these networks, else 0, also if there are no
-/// networks. Returns `PREFIX` if a prefix length is greater than 32.
-#[unsafe(no_mangle)]
-pub extern "C" fn ipnetwork_v4_list_contains(
-    networks: &[Ipv4InC],
-    address: &[u8; 4],
-    answer: &mut u8,
-) -> u32
-    ensures { IfFit (All (λ held. PrefixFits 32 (v4_in held)) networks.now)
-        (Writes (IsFlag (Any
-        (λ held. Member 32 (v4_in held) (number_of_octets address.now)) networks.now))) answer.old
-        answer.new result }
-{
-    lists::contains::<Ipv4Network, Ipv4InC>(networks, Ipv4Addr::from(*address), answer)
-}
-
-/// The same for IPv6, for prefix lengths up to 128.
-#[unsafe(no_mangle)]
-pub extern "C" fn ipnetwork_v6_list_contains(
-    networks: &[Ipv6InC],
-    address: &[u8; 16],
-    answer: &mut u8,
-) -> u32
-    ensures { IfFit (All (λ held. PrefixFits 128 (v6_in held)) networks.now)
-        (Writes (IsFlag (Any
-        (λ held. Member 128 (v6_in held) (number_of_octets address.now)) networks.now))) answer.old
-        answer.new result }
-{
-    lists::contains::<Ipv6Network, Ipv6InC>(networks, address_of(address), answer)
-}
 
 /// Writes to `answer` 1 if an address is in the set of a list, else 0, for the list of a set, as
 /// `ipnetwork_v4_aggregate` leaves it. For any other list, 1 is right too, but 0 says nothing. If
 /// the structs ascend, the search ends at the last struct whose own address is at or before this
 /// one. Returns `PREFIX` exactly if the prefix length of the struct at which the search ends is
-/// greater than 32, which never occurs in the list of a set.
-#[unsafe(no_mangle)]
-pub extern "C" fn ipnetwork_v4_set_contains(
-    blocks: &[Ipv4InC],
-    address: &[u8; 4],
-    answer: &mut u8,
-) -> u32
-    ensures { SetQuery 32 v4_in blocks.now
-        (number_of_octets address.now) answer.old answer.new result }
-{
-    sets::contains::<Ipv4Network, Ipv4InC>(blocks, &[], address, answer)
-}
-
-/// The same for IPv6, for prefix lengths up to 128.
-#[unsafe(no_mangle)]
-pub extern "C" fn ipnetwork_v6_set_contains(
-    blocks: &[Ipv6InC],
-    address: &[u8; 16],
-    answer: &mut u8,
-) -> u32
-    ensures { SetQuery 128 v6_in blocks.now
-        (number_of_octets address.now) answer.old answer.new result }
-{
-    sets::contains::<Ipv6Network, Ipv6InC>(blocks, &[], address, answer)
-}
-
-/// Writes and returns what `ipnetwork_v4_set_contains` does, by an index of the blocks, as
-/// `ipnetwork_v4_index_make` makes it. The index only says where the search begins: an index of
+/// greater than 32, which never occurs in the list of a set. `index` is the index of the blocks, as
+/// `ipnetwork_v4_index_make` makes it, or empty. It only says where the search begins: an index of
 /// another list makes the search slower, but the answer is the same if the blocks ascend.
 #[unsafe(no_mangle)]
 #[inline(always)]
@@ -96,7 +35,7 @@ pub extern "C" fn ipnetwork_v4_index_contains(
     sets::contains::<Ipv4Network, Ipv4InC>(blocks, index, address, answer)
 }
 
-/// The same for IPv6, as `ipnetwork_v6_set_contains`.
+/// The same for IPv6, for prefix lengths up to 128.
 #[unsafe(no_mangle)]
 #[inline(always)]
 pub extern "C" fn ipnetwork_v6_index_contains(
@@ -111,40 +50,14 @@ pub extern "C" fn ipnetwork_v6_index_contains(
     sets::contains::<Ipv6Network, Ipv6InC>(blocks, index, address, answer)
 }
 
-/// Writes to `index` the index of the longest block of a table that has the address. A table is
+/// Writes to `place` the place of the longest block of a table that has the address. A table is
 /// blocks without host bits in ascending order by `ipnetwork_v4_compare`, some of which may contain
 /// others. Returns `NO_MEMBER` if no block has the address. For any other list, the block at the
-/// index has the address too, but there may be a longer one, and `NO_MEMBER` says nothing. Returns
+/// place has the address too, but there may be a longer one, and `NO_MEMBER` says nothing. Returns
 /// `PREFIX` at the first struct that the search reaches whose prefix length is greater than 32,
-/// which never occurs in a table.
-#[unsafe(no_mangle)]
-pub extern "C" fn ipnetwork_v4_table_find(
-    blocks: &[Ipv4InC],
-    address: &[u8; 4],
-    index: &mut usize,
-) -> u32
-    ensures { TableQuery 32 v4_in blocks.now
-        (number_of_octets address.now) index.old index.new result }
-{
-    tables::find::<Ipv4Network, Ipv4InC>(blocks, &[], Ipv4Addr::from(*address), index)
-}
-
-/// The same for IPv6, for prefix lengths up to 128.
-#[unsafe(no_mangle)]
-pub extern "C" fn ipnetwork_v6_table_find(
-    blocks: &[Ipv6InC],
-    address: &[u8; 16],
-    index: &mut usize,
-) -> u32
-    ensures { TableQuery 128 v6_in blocks.now
-        (number_of_octets address.now) index.old index.new result }
-{
-    tables::find::<Ipv6Network, Ipv6InC>(blocks, &[], address_of(address), index)
-}
-
-/// Writes to `place` what `ipnetwork_v4_table_find` finds, with the same faults, by an index of the
-/// blocks, as `ipnetwork_v4_table_index_make` makes it. Whatever the index holds, the result is the
-/// same if the blocks ascend.
+/// which never occurs in a table. `index` is the index of the blocks, as
+/// `ipnetwork_v4_table_index_make` makes it, or empty. Whatever it holds, the result is the same if
+/// the blocks ascend.
 #[unsafe(no_mangle)]
 #[inline(always)]
 pub extern "C" fn ipnetwork_v4_index_find(
@@ -159,7 +72,7 @@ pub extern "C" fn ipnetwork_v4_index_find(
     tables::find::<Ipv4Network, Ipv4InC>(blocks, index, Ipv4Addr::from(*address), place)
 }
 
-/// The same for IPv6, as `ipnetwork_v6_table_find`.
+/// The same for IPv6, for prefix lengths up to 128.
 #[unsafe(no_mangle)]
 #[inline(always)]
 pub extern "C" fn ipnetwork_v6_index_find(
@@ -175,9 +88,9 @@ pub extern "C" fn ipnetwork_v6_index_find(
 }
 
 /// Writes to `place` the place of the last range that begins at or before an address, by an index
-/// of the ranges, as `ipnetwork_v4_table_index_make` makes it, or by none. For the ranges and places of a
-/// table, as `ipnetwork_v4_ranges_make` makes them, it is the place that `ipnetwork_v4_table_find`
-/// finds in the table. Returns `NO_MEMBER` if there is no such range, or if its place is missing or
+/// of the ranges, as `ipnetwork_v4_table_index_make` makes it, or by none. For the ranges and places
+/// of a table, as `ipnetwork_v4_ranges_make` makes them, it is the place that
+/// `ipnetwork_v4_index_find` finds in the table. Returns `NO_MEMBER` if there is no such range, or if its place is missing or
 /// `NO_PLACE`. Whatever the index holds, the result is the same if the ranges ascend.
 #[unsafe(no_mangle)]
 #[inline(always)]

@@ -10,7 +10,7 @@ use ipnetwork::{Ipv4Network, Ipv6Network};
 /// Makes a table of networks, in any order and with or without host bits: writes their blocks in
 /// ascending order to the front of `blocks`, and for each block the index of its network to the
 /// front of `places`. Equal blocks are in the order of their networks, so that
-/// `ipnetwork_v4_table_find` finds the last of them. The rest of `blocks` and `places` is
+/// `ipnetwork_v4_index_find` finds the last of them. The rest of `blocks` and `places` is
 /// unchanged. Returns `PREFIX` if the prefix length of a network is greater than 32, else
 /// `SHORT_BUFFER` if there is room for fewer blocks or places than networks.
 #[unsafe(no_mangle)]

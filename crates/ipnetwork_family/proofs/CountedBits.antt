@@ -1,11 +1,5 @@
 -- Counts of bits: the leading bits that two numbers share, and the trailing zeros of a number.
-use Rattle.std.proofs.Common.{◌≡◌, ◌↔◌, ℕ, zero, suc, ◌+◌, ◌-◌, ◌*◌, ◌/◌, ◌%◌, ◌^◌, ◌<◌, ◌≤◌, bit_xor, refl, sym, ap, ◌∙◌, inl, inr, arith}
-use Rattle.std.specs.Int.Bits.{xor_add_and, xor_self}
-use Rattle.std.specs.Int.Count.{count_leading_zeros, count_trailing_zeros, under}
-use Rattle.std.proofs.Math.Nat.{div-lt_iff_lt-mul}
-use Rattle.std.proofs.lemmas.Bool.{cases_lt}
-use Rattle.std.proofs.lemmas.Nat.{pow_pos, pow-add, mul-le, xor_shr, xor_lt, and_le_l, and_le_r, leading_length, mod-pow-add}
-use Rattle.ipnetwork_family.specs.Bits.{SharesBits, EndsInZeros}
+use Rattle.ipnetwork_family.proofs.Words.{◌≡◌, ◌↔◌, ℕ, zero, suc, ◌+◌, ◌-◌, ◌*◌, ◌/◌, ◌%◌, ◌^◌, ◌<◌, ◌≤◌, bit_xor, refl, sym, ap, ◌∙◌, inl, inr, arith, xor_add_and, xor_self, count_leading_zeros, count_trailing_zeros, under, div-lt_iff_lt-mul, cases_lt, pow_pos, pow-add, mul-le, xor_shr, xor_lt, and_le_l, and_le_r, leading_length, mod-pow-add, SharesBits, EndsInZeros}
 
 -- ---- leading bits
 
@@ -16,7 +10,8 @@ no_difference a b e = omega (arith, xor_add_and a b, and_le_l a b, and_le_r a b)
 agree_before : (a b k : ℕ) → (a / 2 ^ k ≡ b / 2 ^ k) ↔ (bit_xor a b < 2 ^ k)
 agree_before a b k =
     let one : (bit_xor a b / 2 ^ k < 1) ↔ (bit_xor a b < 1 * 2 ^ k) = div-lt_iff_lt-mul (pow_pos k) in (
-      (λ e. let none : bit_xor a b / 2 ^ k ≡ 0 = xor_shr a b k ∙ ap (λ n. bit_xor n (b / 2 ^ k)) e ∙ xor_self (b / 2 ^ k) in
+      (λ e. let none : bit_xor a b / 2 ^ k ≡ 0 = xor_shr a b k ∙ ap (λ n. bit_xor n (b / 2 ^ k)) e
+          ∙ xor_self (b / 2 ^ k) in
           omega (arith, one.0 (omega arith))),
       (λ below. no_difference (a / 2 ^ k) (b / 2 ^ k) (sym (xor_shr a b k) ∙ (omega (arith, one.1 (omega arith))))),
     )
@@ -25,7 +20,13 @@ doubled : (j m : ℕ) → j < m → 2 * 2 ^ j ≤ 2 ^ m
 doubled j m h =
     let e : m ≡ (m - j - 1) + (1 + j) = omega arith in
     let power : 2 ^ m ≡ 2 ^ (m - j - 1) * 2 ^ (1 + j) = ap (λ i. 2 ^ i) e ∙ pow-add 2 (m - j - 1) (1 + j) in
-    omega (arith, power, pow-add 2 1 j, mul-le 1 (2 ^ (1 + j)) (2 ^ (m - j - 1)) (2 ^ (1 + j)) (pow_pos (m - j - 1)) (omega arith))
+    omega (
+      arith,
+      power,
+      pow-add 2 1 j,
+      mul-le 1 (2 ^ (1 + j)) (2 ^ (m - j - 1)) (2 ^ (1 + j)) (pow_pos (m - j - 1))
+          (omega arith),
+    )
 
 pub shared_bits : (w a b : ℕ) → a < 2 ^ w → b < 2 ^ w → SharesBits w a b (count_leading_zeros w (bit_xor a b))
 shared_bits w a b h k =
@@ -36,7 +37,8 @@ shared_bits w a b h k =
       within = omega (arith, count);
       agree = rw rest ((agree_before a b m).1 fits);
       greatest = λ q le e. elim (cases_lt (count_leading_zeros w x) q) [
-        | inl more ↦ absurd (omega (arith, (agree_before a b (w - q)).0 e, doubled (w - q) m (omega (arith, count)), long))
+        | inl more ↦ absurd (omega
+            (arith, (agree_before a b (w - q)).0 e, doubled (w - q) m (omega (arith, count)), long))
         | inr enough ↦ enough
       ];
     }
@@ -55,7 +57,8 @@ of_even k n t zero even half le e = omega arith
 of_even k n t (suc j) even half le e = omega (arith, half.greatest j (omega arith) (omega (arith, one_bit_more n j)))
 
 with_last : (k n t d : ℕ) → n % 2 ≡ d → EndsInZeros k (n / 2) t → EndsInZeros (suc k) n (under d t)
-with_last k n t (suc d) odd half = record { within = omega arith; divides = omega arith; greatest = λ j le e. of_odd n d j odd e }
+with_last k n t (suc d) odd half =
+    record { within = omega arith; divides = omega arith; greatest = λ j le e. of_odd n d j odd e }
 with_last k n t zero even half = record {
   within = omega (arith, half.within);
   divides = one_bit_more n t ∙ (omega (arith, half.divides));

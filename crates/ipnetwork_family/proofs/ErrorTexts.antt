@@ -1,12 +1,10 @@
 -- Errors of different kinds print different texts.
-use Rattle.std.proofs.Common.{◌≡◌, inl, inr, ap, refl, arith, get_or}
+use Rattle.ipnetwork_family.proofs.Words.{◌≡◌, inl, inr, ap, refl, arith, get_or, SameErrorPrintsTheSame, FormatFaultIsPrinted, Refusal, BadAddress, BadPrefix, BadFormat, BadSize, RanOutOfMemory, refusal_of, refusal_text, NetworkIsTooLarge}
 use Rattle.std.specs.Prelude.{drop}
-use Rattle.ipnetwork_family.specs.Laws.{SameErrorPrintsTheSame, FormatFaultIsPrinted}
-use Rattle.ipnetwork_family.specs.ErrorTexts.{Refusal, BadAddress, BadPrefix, BadFormat, BadSize, RanOutOfMemory, refusal_of, refusal_text}
-use Rattle.ipnetwork_family.specs.declared.error.NetworkSizeError.TheVariants.{NetworkIsTooLarge}
 
 -- the byte at index 8 differs between kinds
-apart : (a b : Refusal) → ¬ (get_or (refusal_text a) 8 0 ≡ get_or (refusal_text b) 8 0) → refusal_text a ≡ refusal_text b → a ≡ b
+apart : (a b : Refusal) → ¬ (get_or (refusal_text a) 8 0 ≡ get_or (refusal_text b) 8 0)
+    → refusal_text a ≡ refusal_text b → a ≡ b
 apart a b differ e = absurd (differ (ap (λ text. get_or text 8 0) e))
 
 one_refusal : (a b : Refusal) → refusal_text a ≡ refusal_text b → a ≡ b

@@ -1,19 +1,6 @@
 -- For IPv4 and IPv6, the definitions for any family agree with those of the family. Counts of bits for which a
 -- misreading of their definitions would show.
-use Rattle.std.proofs.Common.{◌≡◌, ◌↔◌, ℕ, ◌≤◌, List, Result, refl, lit<, lit≤, arith}
-use Rattle.std.specs.Int.Count.{count_leading_zeros, count_trailing_zeros}
-use Rattle.ipnetwork_addr.specs.Ipv4Text.{canonical_v4}
-use Rattle.ipnetwork_addr.specs.Computed.Ipv6Canonical.{canonical_v6}
-use Rattle.ipnetwork_addr.specs.declared.error.AddrParseError.TheVariants.{Ipv4, Ipv6}
-use Rattle.ipnetwork_family.specs.Bits.{SharesBits, EndsInZeros}
-use Rattle.ipnetwork_family.specs.Family.{v4_family, v6_family, NamesNetworkOf, ReadsNetworkOf, ParsesNetworkOf, text_of, text_length_of}
-use Rattle.ipnetwork_family.specs.Ipv4NetworkText.{NamesV4Network, ReadsV4Network}
-use Rattle.ipnetwork_family.specs.Ipv6NetworkText.{NamesV6Network, ReadsV6Network}
-use Rattle.ipnetwork_family.specs.Network.{Network}
-use Rattle.ipnetwork_family.specs.NetworkText.{network_text}
-use Rattle.ipnetwork_family.specs.Parsing.{ParsesV4Network, ParsesV6Network}
-use Rattle.ipnetwork_family.specs.declared.error.CidrFault.{CidrFault}
-use Rattle.ipnetwork_family.specs.declared.error.IpNetworkError.{IpNetworkError}
+use Rattle.ipnetwork_family.proofs.Words.{◌≡◌, ◌↔◌, ℕ, ◌≤◌, List, Result, refl, lit<, lit≤, arith, count_leading_zeros, count_trailing_zeros, canonical_v4, canonical_v6, Ipv4, Ipv6, SharesBits, EndsInZeros, v4_family, v6_family, NamesNetworkOf, ReadsNetworkOf, ParsesNetworkOf, text_of, text_length_of, NamesV4Network, ReadsV4Network, NamesV6Network, ReadsV6Network, Network, network_text, ParsesV4Network, ParsesV6Network, CidrFault, IpNetworkError}
 use Rattle.ipnetwork_family.proofs.CountedBits.{shared_bits, trailing_zeros}
 
 -- ---- the definitions of each family
@@ -24,16 +11,20 @@ v4_named text n = ((λ h. h), (λ h. h))
 pub v6_named : (text : List ℕ) (n : Network) → NamesNetworkOf v6_family text n ↔ NamesV6Network text n
 v6_named text n = ((λ h. h), (λ h. h))
 
-pub v4_read : (text : List ℕ) (result : Result Network CidrFault) → ReadsNetworkOf v4_family text result ↔ ReadsV4Network text result
+pub v4_read : (text : List ℕ) (result : Result Network CidrFault) → ReadsNetworkOf v4_family text result
+    ↔ ReadsV4Network text result
 v4_read text result = ((λ h. h), (λ h. h))
 
-pub v6_read : (text : List ℕ) (result : Result Network CidrFault) → ReadsNetworkOf v6_family text result ↔ ReadsV6Network text result
+pub v6_read : (text : List ℕ) (result : Result Network CidrFault) → ReadsNetworkOf v6_family text result
+    ↔ ReadsV6Network text result
 v6_read text result = ((λ h. h), (λ h. h))
 
-pub v4_parsed : (text : List ℕ) (result : Result Network IpNetworkError) → ParsesNetworkOf v4_family text result ↔ ParsesV4Network text result
+pub v4_parsed : (text : List ℕ) (result : Result Network IpNetworkError) → ParsesNetworkOf v4_family text result
+    ↔ ParsesV4Network text result
 v4_parsed text result = ((λ h. h), (λ h. h))
 
-pub v6_parsed : (text : List ℕ) (result : Result Network IpNetworkError) → ParsesNetworkOf v6_family text result ↔ ParsesV6Network text result
+pub v6_parsed : (text : List ℕ) (result : Result Network IpNetworkError) → ParsesNetworkOf v6_family text result
+    ↔ ParsesV6Network text result
 v6_parsed text result = ((λ h. h), (λ h. h))
 
 pub v4_printed : (n : Network) → text_of v4_family n ≡ network_text canonical_v4 n

@@ -1,3 +1,6 @@
+mod LawExamples
+mod NoSuffix
+mod Shown
 pub mod Bits
 pub mod Blocks
 pub mod BlocksAt
@@ -14,13 +17,12 @@ pub mod FamilyExamples
 pub mod Generic
 pub mod JsonExamples
 pub mod JsonTexts
-mod LawExamples
+pub mod Known
 pub mod Masks
 pub mod Members
 pub mod NetworkTexts
-mod NoSuffix
 pub mod Numerals
 pub mod Parsed
-mod Shown
 pub mod Slashes
 pub mod Suffixes
+pub mod Words

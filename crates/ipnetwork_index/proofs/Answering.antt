@@ -1,16 +1,5 @@
 -- One answer holds for a whole range.
-use Rattle.std.proofs.Common.{◌≡◌, ◌↔◌, ℕ, ◌+◌, ◌-◌, ◌^◌, ◌<◌, ◌≤◌, ◌⊎◌, min, List, [], ◌∷◌, ◌++◌, length, get_or, arith, inl, inr, sym, refl, ap, subst, ◌∙◌, ⊎_elim, Option, None, Some, IsSome, is_some, length-append}
-use Rattle.std.specs.List.{Contains}
-use Rattle.std.specs.FinMap.{FinMap, get}
-use Rattle.std.proofs.lemmas.Bool.{cases_lt, cases_eq}
-use Rattle.std.proofs.lemmas.List.{get_or_default, get_or_append_left, get_or_past, get_or_push}
-use Rattle.ipnetwork_family.specs.Network.{Network, IsNetwork, Member, low, high, block_at, network_cmp}
-use Rattle.ipnetwork_family.proofs.Blocks.{size_pos, within_member, member_within}
-use Rattle.ipnetwork_family.proofs.BlocksAt.{block_at_is}
-use Rattle.ipnetwork_table.specs.Table.{HasOnlyBlocks, IsLongest, NoneHolds, Finds}
-use Rattle.ipnetwork_index.specs.Private.Partitions.{IsPartition, LiesAt}
-use Rattle.ipnetwork_index.specs.Private.Edges.{IsCutOut, CutsOut}
-use Rattle.ipnetwork_index.specs.Private.Answers.{IsFound, Tells, TellsAt, IsMadeOf, AreAnswersUpTo, AreNone, AreAnswers, IsAnswered}
+use Rattle.ipnetwork_index.proofs.Words.{◌≡◌, ◌↔◌, ℕ, ◌+◌, ◌-◌, ◌^◌, ◌<◌, ◌≤◌, ◌⊎◌, min, List, [], ◌∷◌, ◌++◌, length, get_or, arith, inl, inr, sym, refl, ap, subst, ◌∙◌, ⊎_elim, Option, None, Some, IsSome, is_some, length-append, Contains, FinMap, get, cases_lt, cases_eq, get_or_default, get_or_append_left, get_or_past, get_or_push, Network, IsNetwork, Member, low, high, block_at, network_cmp, size_pos, within_member, member_within, block_at_is, HasOnlyBlocks, IsLongest, NoneHolds, Finds, IsPartition, LiesAt, IsCutOut, CutsOut, IsFound, Tells, TellsAt, IsMadeOf, AreAnswersUpTo, AreNone, AreAnswers, IsAnswered}
 use Rattle.ipnetwork_index.proofs.RangeCounts.{cut_by_blocks}
 
 -- ---- the last number of a range is in the same networks as the other numbers of the range

@@ -1,12 +1,5 @@
 -- The blocks that are open at once are nested, so at most one of them has each prefix length.
-use Rattle.std.proofs.Common.{◌≡◌, ℕ, zero, suc, ◌+◌, ◌-◌, ◌<◌, ◌≤◌, List, [], ◌∷◌, ◌++◌, length, get_or, arith, sym, ap, subst, ◌∙◌, ⊎_elim, Some, slice_get, length-append}
-use Rattle.std.specs.Option.{unwrap_or}
-use Rattle.std.proofs.lemmas.Bool.{cases_lt}
-use Rattle.std.proofs.lemmas.List.{get_or_append_left, get_or_push}
-use Rattle.std.proofs.lemmas.Option.{slice_get-get_or}
-use Rattle.ipnetwork_family.specs.Network.{Network, IsCidrBlock, IsNetworkBefore, Member, low, high}
-use Rattle.ipnetwork_family.proofs.Blocks.{size_pos, has_ends, within_member, member_within, subnet_from, shares_address}
-use Rattle.ipnetwork_index.specs.Private.Sweeps.{AreListed, AreNested, AreOpen, IsLongerWithin, LastEndsFrom}
+use Rattle.ipnetwork_index.proofs.Words.{◌≡◌, ℕ, zero, suc, ◌+◌, ◌-◌, ◌<◌, ◌≤◌, List, [], ◌∷◌, ◌++◌, length, get_or, arith, sym, ap, subst, ◌∙◌, ⊎_elim, Some, slice_get, length-append, unwrap_or, cases_lt, get_or_append_left, get_or_push, slice_get-get_or, Network, IsCidrBlock, IsNetworkBefore, Member, low, high, size_pos, has_ends, within_member, member_within, subnet_from, shares_address, AreListed, AreNested, AreOpen, IsLongerWithin, LastEndsFrom}
 
 -- what is read at one place is always the same
 pub same_item : {A : Type 0} (xs : List A) (i j : ℕ) (a b : A) → i ≡ j → slice_get xs i ≡ Some a

@@ -1,10 +1,5 @@
 -- Counts of numbers: the last numbers of ranges except the greatest, and the cuts of ranges.
-use Rattle.std.proofs.Common.{◌≡◌, ℕ, zero, suc, ◌+◌, ◌-◌, ◌*◌, ◌<◌, ◌≤◌, List, [], ◌∷◌, ◌++◌, length, get_or, take, arith, sym, subst, ◌∙◌, length-append}
-use Rattle.std.specs.List.{flat_map}
-use Rattle.std.proofs.lemmas.List.{length-take, get_or-take, get_or_default}
-use Rattle.ipnetwork_sets.specs.Counts.{HasCount}
-use Rattle.ipnetwork_index.specs.Private.Partitions.{IsPartition}
-use Rattle.ipnetwork_index.specs.Private.Cuts.{before, cuts_of}
+use Rattle.ipnetwork_index.proofs.Words.{◌≡◌, ℕ, ◌+◌, ◌-◌, ◌<◌, List, length, get_or, take, arith, sym, subst, ◌∙◌, length-take, get_or-take, get_or_default, HasCount, IsPartition}
 
 -- the set has exactly the last numbers of ranges except the greatest
 pub has_all_but_last : (set : ℕ → Type 0) (w : ℕ) (lasts : List ℕ) → IsPartition w lasts
@@ -42,21 +37,3 @@ has_all_but_last set w lasts p each place =
       );
       count = size;
     }
-
-before_length : (n : ℕ) → length (before n) ≤ 1
-before_length zero = omega arith
-before_length (suc n) = omega arith
-
--- each range has at most two cuts
-pub cuts_length : {A : Type 0} (range : A → ℕ × ℕ) (all : List A)
-    → length (flat_map (λ a. cuts_of (range a)) all) ≤ 2 * length all
-cuts_length {A} range [] = omega arith
-cuts_length {A} range (a ∷ all) =
-    let rest = cuts_length range all in
-    let one = before_length (range a).0 in
-    let own : length (cuts_of (range a)) ≡ length (before (range a).0) + 1
-    = length-append (before (range a).0) ((range a).1 ∷ []) in
-    let both : length (cuts_of (range a) ++ flat_map (λ b. cuts_of (range b)) all)
-    ≡ length (cuts_of (range a)) + length (flat_map (λ b. cuts_of (range b)) all)
-    = length-append (cuts_of (range a)) (flat_map (λ b. cuts_of (range b)) all) in
-    omega arith

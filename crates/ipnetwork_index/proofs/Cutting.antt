@@ -1,21 +1,5 @@
 -- The cuts of the ranges of a set.
-use Rattle.std.proofs.Common.{◌≡◌, ◌↔◌, ℕ, zero, suc, ◌+◌, ◌-◌, ◌*◌, ◌/◌, ◌^◌, ◌<◌, ◌≤◌, Bool, true, false, List, [], ◌∷◌, ◌++◌, length, get_or, arith, inl, inr, sym, refl, ap, subst, ◌∙◌, ⊎_elim, length-append, ◌≢◌, true≢false}
-use Rattle.std.specs.List.{All, AllPairs, flat_map}
-use Rattle.std.proofs.lemmas.Bool.{cases_eq, cases_lt}
-use Rattle.std.proofs.lemmas.Nat.{pow_pos}
-use Rattle.std.proofs.lemmas.List.{get_or_push, append-nil}
-use Rattle.ipnetwork_family.specs.Network.{Network, low, high, block_size}
-use Rattle.ipnetwork_blocks.specs.Aggregate.{InUnion}
-use Rattle.ipnetwork_blocks.specs.Ranges.{FromTo}
-use Rattle.ipnetwork_blocks.proofs.LeastLists.{least_unique, pairs_head, pairs_tail}
-use Rattle.ipnetwork_sets.specs.Sets.{IsAddressSet}
-use Rattle.ipnetwork_sets.specs.RangeLists.{InRanges}
-use Rattle.ipnetwork_sets.specs.Private.LeastBlocks.{least_blocks}
-use Rattle.ipnetwork_sets.proofs.LeastBlocks.{least_blocks_of}
-use Rattle.ipnetwork_sets.proofs.RunLists.{ranges_cons, ranges_nil}
-use Rattle.ipnetwork_sets.proofs.WholeSpace.{whole, whole_quotient}
-use Rattle.ipnetwork_index.specs.Private.Partitions.{is_inside}
-use Rattle.ipnetwork_index.specs.Private.Cuts.{before, cuts_of, AreCutsOf, Rises, Closes, EndsWhole, EndsBefore}
+use Rattle.ipnetwork_index.proofs.Words.{◌≡◌, ◌↔◌, ℕ, zero, suc, ◌+◌, ◌-◌, ◌*◌, ◌/◌, ◌^◌, ◌<◌, ◌≤◌, Bool, true, false, List, [], ◌∷◌, ◌++◌, length, get_or, arith, inl, inr, sym, refl, ap, subst, ◌∙◌, ⊎_elim, length-append, ◌≢◌, true≢false, All, AllPairs, flat_map, cases_eq, cases_lt, pow_pos, get_or_push, append-nil, Network, low, high, block_size, InUnion, FromTo, least_unique, pairs_head, pairs_tail, IsAddressSet, InRanges, least_blocks, least_blocks_of, ranges_cons, ranges_nil, whole, whole_quotient, is_inside, before, cuts_of, AreCutsOf, Rises, Closes, EndsWhole, EndsBefore}
 use Rattle.ipnetwork_index.proofs.Inside.{inside_within, inside_after}
 
 abbrev pub Range : Type 0

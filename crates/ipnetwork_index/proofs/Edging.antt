@@ -1,23 +1,5 @@
 -- The edges of the blocks of a table.
-use Rattle.std.proofs.Common.{◌≡◌, ℕ, zero, suc, ◌+◌, ◌^◌, ◌<◌, ◌≤◌, ◌⊎◌, inl, inr, Bool, true, false, List, [], ◌∷◌, ◌++◌, length, get_or, map, arith, sym, refl, ap, subst, ◌∙◌, ⊎_elim, Option, None, Some, IsSome, is_some, slice_get, Ordering, true≢false, append_assoc, take}
-use Rattle.std.specs.declared.cmp.Ordering.TheVariants.{Less, Equal}
-use Rattle.std.specs.Cmp.{IsTotalOrder, IsEquivalence, ranked}
-use Rattle.std.specs.Ordering.{nat_cmp, eq_by_cmp}
-use Rattle.std.specs.List.{AllByRecursion, Contains, dedup}
-use Rattle.std.specs.List.Sorted.{IsSorted, IsStrictlySortedBy, IsPermutation}
-use Rattle.std.specs.Option.{unwrap_or}
-use Rattle.std.specs.FinMap.{FinMap, get, entries}
-use Rattle.std.proofs.lemmas.List.{append-nil, map_push, take_more}
-use Rattle.std.proofs.lemmas.List.Kept.{Any-dedup, Contains-from_dedup, IsStrictlySortedBy-dedup}
-use Rattle.std.proofs.lemmas.List.Sorted.{Contains-permutation, IsPermutation-map, IsPermutation-sym}
-use Rattle.std.proofs.lemmas.List.Elements.{Contains-append_cases, Contains-append_left, Contains-append_right, Contains-push}
-use Rattle.ipnetwork_family.specs.Network.{Network, low, high, network_cmp}
-use Rattle.ipnetwork_table.specs.Laws.{ListedIsStored, StoredIsListed}
-use Rattle.ipnetwork_blocks.proofs.LeastLists.{contains_cons, contains_nil}
-use Rattle.ipnetwork_table.specs.Table.{by_pair}
-use Rattle.ipnetwork_table.proofs.Pairs.{tie_of}
-use Rattle.ipnetwork_index.specs.Private.Cuts.{before, cuts_of, Rises, Closes}
-use Rattle.ipnetwork_index.specs.Private.Edges.{edges_of, CutsOut}
+use Rattle.ipnetwork_index.proofs.Words.{◌≡◌, ℕ, zero, suc, ◌+◌, ◌^◌, ◌<◌, ◌≤◌, ◌⊎◌, inl, inr, Bool, true, false, List, [], ◌∷◌, ◌++◌, length, get_or, map, arith, sym, refl, ap, subst, ◌∙◌, ⊎_elim, Option, None, Some, IsSome, is_some, slice_get, Ordering, true≢false, append_assoc, take, Less, Equal, IsTotalOrder, IsEquivalence, ranked, nat_cmp, eq_by_cmp, AllByRecursion, Contains, dedup, IsSorted, IsStrictlySortedBy, IsPermutation, unwrap_or, FinMap, get, entries, append-nil, map_push, take_more, Any-dedup, Contains-from_dedup, IsStrictlySortedBy-dedup, Contains-permutation, IsPermutation-map, IsPermutation-sym, Contains-append_cases, Contains-append_left, Contains-append_right, Contains-push, Network, low, high, network_cmp, ListedIsStored, StoredIsListed, contains_cons, contains_nil, by_pair, tie_of, before, cuts_of, Rises, Closes, edges_of, CutsOut}
 
 -- ---- each block has its edges
 
@@ -41,14 +23,6 @@ own_end first last = Contains-push (before first) last
 end_before : (first last x : ℕ) → x + 1 ≡ first → Contains (cuts_of (first, last)) x
 end_before zero last x e = absurd (omega arith)
 end_before (suc n) last x e = let same : n ≡ x = omega arith in (0, omega arith, same)
-
-pub edge_into : (first last x : ℕ) → (last ≡ x) ⊎ (first ≡ x + 1)
-    → Contains (cuts_of (first, last)) x
-edge_into first last x e =
-    ⊎_elim
-    (λ (h : last ≡ x). subst (λ (y : ℕ). Contains (cuts_of (first, last)) y) h (own_end first last))
-    (λ (l : first ≡ x + 1). end_before first last x (sym l))
-    e
 
 -- each edge belongs to a block
 edge_of : (first last x : ℕ) → Contains (cuts_of (first, last)) x → (last ≡ x) ⊎ (first ≡ x + 1)

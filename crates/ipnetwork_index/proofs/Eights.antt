@@ -1,10 +1,5 @@
 -- The marks of eight numbers: those that are not less than another number have one.
-use Rattle.std.proofs.Common.{◌≡◌, ℕ, ◌+◌, ◌-◌, ◌%◌, ◌^◌, ◌<◌, ◌≤◌, ◌∙◌, true, cond, eqb, leb, not, List, length, map, replicate, arith, refl, subst, ap, w16}
-use Rattle.std.proofs.lemmas.Bool.{agree_below_at, eqb-true, leb-true, leb-false}
-use Rattle.std.proofs.lemmas.List.{length-map}
-use Rattle.std.proofs.lemmas.Simd.{length-chunk, tops_compared, zip2_splat_left, mask_l-lt, mask_l-mod, first_set_mask_l, run_in_chunk_le, run_in_chunk_fails, run_in_chunk_stops}
-use Rattle.std.specs.List.{prefix_len}
-use Rattle.ipnetwork_index.specs.Private.LowHalves.{IsRunOfLess}
+use Rattle.ipnetwork_index.proofs.Words.{◌≡◌, ℕ, ◌+◌, ◌-◌, ◌%◌, ◌^◌, ◌<◌, ◌≤◌, ◌∙◌, true, cond, eqb, leb, not, List, length, map, replicate, arith, refl, subst, ap, w16, agree_below_at, eqb-true, leb-true, leb-false, length-map, length-chunk, tops_compared, zip2_splat_left, mask_l-lt, mask_l-mod, first_set_mask_l, run_in_chunk_le, run_in_chunk_fails, run_in_chunk_stops, prefix_len, IsRunOfLess}
 use lib.Count.{count_trailing_zeros}
 use lib.Lanes.{chunk, mask_l, top, zip2}
 

@@ -1,12 +1,7 @@
 -- The table of two entries with one block, over addresses of 3 bits: the value of the last entry counts.
-use Rattle.std.proofs.Common.{◌≡◌, ℕ, ◌++◌, List, [], ◌∷◌, length, refl, ap, subst, arith}
-use Rattle.std.specs.Prelude.{None, Some, Option, MatchOption}
-use Rattle.std.specs.FinMap.{FinMap, get}
-use Rattle.std.specs.List.{Contains}
+use Rattle.ipnetwork_index.proofs.Words.{◌≡◌, ℕ, ◌++◌, List, [], ◌∷◌, length, refl, ap, subst, arith, MatchOption, FinMap, get, Contains, contains_head, contains_nil, Network, network_cmp, NoneHasBlock, IsLastValue, HasLastValues}
+use Rattle.std.specs.Prelude.{None, Some, Option}
 use Rattle.std.proofs.lemmas.List.{length-append}
-use Rattle.ipnetwork_blocks.proofs.LeastLists.{contains_head, contains_nil}
-use Rattle.ipnetwork_family.specs.Network.{Network, network_cmp}
-use Rattle.ipnetwork_index.specs.Entries.{NoneHasBlock, IsLastValue, HasLastValues}
 
 abbrev net : ℕ → ℕ → Network
 net address prefix = record { address = address; prefix = prefix }
@@ -31,10 +26,12 @@ last_value = record {
 pub no_earlier_value : ¬ (Told (Some 7))
 no_earlier_value h = go h.before h.network h.behind h.entries_are h.is_last
   where
-    go : (before : List (Network × ℕ)) (n : Network) (behind : List (Network × ℕ)) → (net 5 2, 7) ∷ (net 4 2, 9) ∷ [] ≡ before ++ (n, 7) ∷ behind → NoneHasBlock 3 (net 4 2) behind → ⊥
+    go : (before : List (Network × ℕ)) (n : Network) (behind : List (Network × ℕ))
+        → (net 5 2, 7) ∷ (net 4 2, 9) ∷ [] ≡ before ++ (n, 7) ∷ behind → NoneHasBlock 3 (net 4 2) behind → ⊥
     go [] n behind is none =
         let rest : (net 4 2, 9) ∷ [] ≡ behind = cc in
-        none (net 4 2, 9) (subst (λ (l : List (Network × ℕ)). Contains l (net 4 2, 9)) rest (contains_head (net 4 2, 9) [])) refl
+        none (net 4 2, 9) (subst (λ (l : List (Network × ℕ)). Contains l (net 4 2, 9)) rest
+        (contains_head (net 4 2, 9) [])) refl
     go (x ∷ []) n behind is none =
         let same : (net 4 2, 9) ≡ (n, 7) = cc in
         let value : 9 ≡ 7 = ap (λ (e : Network × ℕ). e.1) same in omega (arith, value)

@@ -1,12 +1,5 @@
 -- Numbers that are searched first by their high halves.
-use Rattle.std.proofs.Common.{◌≡◌, ℕ, ◌+◌, ◌-◌, ◌<◌, ◌≤◌, Bool, true, false, List, length, map, get_or, arith, sym, subst, ⊎_elim, true≢false}
-use Rattle.std.proofs.lemmas.Bool.{cases_lt}
-use Rattle.std.proofs.lemmas.List.{get_or-map, length-map}
-use Rattle.ipnetwork_index.specs.Halves.{IsLastOf}
-use Rattle.ipnetwork_index.specs.Searches.{Ascends, AreStarts, IsWithin, IsPlaceOf}
-use Rattle.ipnetwork_index.specs.Private.Halved.{AllAreLast}
-use Rattle.ipnetwork_index.specs.Private.Padded.{IsPadded, IsSearched}
-use Rattle.ipnetwork_index.specs.Private.Steps.{HasComeTo}
+use Rattle.ipnetwork_index.proofs.Words.{◌≡◌, ℕ, ◌+◌, ◌-◌, ◌<◌, ◌≤◌, Bool, true, false, List, length, map, get_or, arith, sym, subst, ⊎_elim, true≢false, cases_lt, get_or-map, length-map, IsLastOf, Ascends, AreStarts, IsWithin, IsPlaceOf, AllAreLast, IsPadded, IsSearched, HasComeTo}
 use Rattle.ipnetwork_index.proofs.Searching.{come, read_number}
 
 module _ (high : ℕ → ℕ) (up : (x y : ℕ) → x ≤ y → high x ≤ high y) where

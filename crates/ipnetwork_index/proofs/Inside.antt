@@ -1,16 +1,7 @@
 -- What the range of a number says about a set.
-use Rattle.std.proofs.Common.{◌≡◌, ◌↔◌, ℕ, zero, suc, ◌%◌, ◌^◌, ◌<◌, ◌≤◌, ◌⊎◌, Bool, true, false, cond, List, [], ◌∷◌, arith, inl, inr, sym, refl, ap, ◌∙◌, subst, ⊎_elim, true≢false, ◌≢◌}
-use Rattle.std.proofs.Math.Bool.{not, beq}
+use Rattle.ipnetwork_index.proofs.Words.{◌≡◌, ◌↔◌, ℕ, zero, suc, ◌%◌, ◌^◌, ◌<◌, ◌≤◌, ◌⊎◌, Bool, true, false, cond, List, [], ◌∷◌, arith, inl, inr, sym, refl, ap, ◌∙◌, subst, ⊎_elim, true≢false, ◌≢◌, beq, cases_lt, le-leb, lt-leb, eqb_tells, InUnion, IsLeastList, IsShortest, is_shortest, least_blocks, least_blocks_of, LiesAt, is_inside}
+use Rattle.std.proofs.Math.Bool.{not}
 use lib.Dec.{eqb}
-use Rattle.std.proofs.lemmas.Bool.{cases_lt, le-leb, lt-leb}
-use Rattle.std.proofs.lemmas.Bool.Decides.{eqb_tells}
-use Rattle.ipnetwork_blocks.specs.Aggregate.{InUnion}
-use Rattle.ipnetwork_blocks.specs.LeastList.{IsLeastList}
-use Rattle.ipnetwork_blocks.specs.LeastListLaws.{IsShortest}
-use Rattle.ipnetwork_blocks.proofs.MaximalBlocks.{is_shortest}
-use Rattle.ipnetwork_sets.specs.Private.LeastBlocks.{least_blocks}
-use Rattle.ipnetwork_sets.proofs.LeastBlocks.{least_blocks_of}
-use Rattle.ipnetwork_index.specs.Private.Partitions.{LiesAt, is_inside}
 
 -- ---- the test by the last numbers of the ranges
 

@@ -1,40 +1,34 @@
 -- The values of a list's entries in a table.
-use Rattle.std.proofs.Common.{◌≡◌, ◌+◌, ◌≤◌, ⊎_elim, ℕ, length, take, true, false, cond, List, [], ◌∷◌, ◌++◌, refl, sym, ap, subst, ◌∙◌, append_assoc, true≢false}
-use Rattle.std.specs.Prelude.{None, Some, Option, MatchOption}
-use Rattle.std.specs.FinMap.{FinMap, get, insert, empty, get-empty, get-insert}
-use Rattle.std.specs.List.{Contains}
-use Rattle.std.specs.Ordering.{eq_by_cmp}
-use Rattle.std.proofs.lemmas.Cmp.{eq_by_cmp_equiv}
-use Rattle.std.proofs.lemmas.List.{take_all, map_push}
-use Rattle.std.proofs.lemmas.List.Elements.{Contains-append_cases}
-use Rattle.ipnetwork_blocks.proofs.LeastLists.{contains_cons, contains_nil}
-use Rattle.ipnetwork_family.specs.Network.{Network, block_of, network_cmp}
-use Rattle.ipnetwork_table.specs.Table.{by_pair}
-use Rattle.ipnetwork_table.proofs.Pairs.{total, one_network, tie_of}
-use Rattle.ipnetwork_index.specs.Entries.{NoneHasBlock, IsLastValue, HasLastValues}
+use Rattle.ipnetwork_index.proofs.Words.{◌≡◌, ◌+◌, ◌≤◌, ⊎_elim, ℕ, length, take, true, false, cond, List, [], ◌∷◌, ◌++◌, refl, sym, ap, subst, ◌∙◌, append_assoc, true≢false, MatchOption, FinMap, get, insert, empty, get-empty, get-insert, Contains, eq_by_cmp, eq_by_cmp_equiv, take_all, map_push, Contains-append_cases, contains_cons, contains_nil, Network, block_of, network_cmp, by_pair, total, one_network, tie_of, NoneHasBlock, IsLastValue, HasLastValues}
+use Rattle.std.specs.Prelude.{None, Some, Option}
 
 pub no_entries : {V : Type 0} (w : ℕ) (t : FinMap network_cmp V) → t ≡ empty → HasLastValues w [] t
 no_entries {V} w t is block =
-    subst (λ (o : Option V). MatchOption o (NoneHasBlock {V = V} w block []) (IsLastValue {V = V} w block [])) (sym (ap (λ t. get t block) is ∙ get-empty network_cmp block))
+    subst (λ (o : Option V). MatchOption o (NoneHasBlock {V = V} w block []) (IsLastValue {V = V} w block []))
+    (sym (ap (λ t. get t block) is ∙ get-empty network_cmp block))
     (λ entry c. absurd (contains_nil entry c))
 
-module _ {V : Type 0} (w : ℕ) (entries : List (Network × V)) (n : Network) (v : V) (block : Network) (differs : ¬ (block_of w n ≡ block)) where
+module _ {V : Type 0} (w : ℕ) (entries : List (Network × V)) (n : Network) (v : V) (block : Network)
+    (differs : ¬ (block_of w n ≡ block)) where
   none_more : NoneHasBlock w block entries → NoneHasBlock w block (entries ++ (n, v) ∷ [])
   none_more none entry c = ⊎_elim
       (λ (left : Contains entries entry). none entry left)
       (λ (right : Contains ((n, v) ∷ []) entry). ⊎_elim
-      (λ (same : (n, v) ≡ entry) (has : block_of w entry.0 ≡ block). differs (ap (λ (e : Network × V). block_of w e.0) same ∙ has))
+      (λ (same : (n, v) ≡ entry) (has : block_of w entry.0 ≡ block). differs
+      (ap (λ (e : Network × V). block_of w e.0) same ∙ has))
       (λ nothing. absurd (contains_nil entry nothing))
       (contains_cons (n, v) [] entry right))
       (Contains-append_cases entries ((n, v) ∷ []) entry c)
 
-module _ {V : Type 0} (w : ℕ) (entries : List (Network × V)) (n : Network) (v : V) (block : Network) (differs : ¬ (block_of w n ≡ block)) where
+module _ {V : Type 0} (w : ℕ) (entries : List (Network × V)) (n : Network) (v : V) (block : Network)
+    (differs : ¬ (block_of w n ≡ block)) where
   last_more : (value : V) → IsLastValue w block entries value → IsLastValue w block (entries ++ (n, v) ∷ []) value
   last_more value last = record {
     before = last.before;
     network = last.network;
     behind = last.behind ++ (n, v) ∷ [];
-    entries_are = ap (λ (l : List (Network × V)). l ++ (n, v) ∷ []) last.entries_are ∙ append_assoc last.before ((last.network, value) ∷ last.behind) ((n, v) ∷ []);
+    entries_are = ap (λ (l : List (Network × V)). l ++ (n, v) ∷ []) last.entries_are
+        ∙ append_assoc last.before ((last.network, value) ∷ last.behind) ((n, v) ∷ []);
     has_block = last.has_block;
     is_last = none_more w last.behind n v block differs last.is_last;
   }
@@ -44,9 +38,11 @@ module _ {V : Type 0} (w : ℕ) (t : FinMap network_cmp V) (entries : List (Netw
   key = block_of w n
 
   Has : Network → Option V → Type 0
-  Has block found = MatchOption found (NoneHasBlock w block (entries ++ (n, v) ∷ [])) (IsLastValue w block (entries ++ (n, v) ∷ []))
+  Has block found = MatchOption found (NoneHasBlock w block (entries ++ (n, v) ∷ []))
+      (IsLastValue w block (entries ++ (n, v) ∷ []))
 
-  kept : (block : Network) → ¬ (block_of w n ≡ block) → (found : Option V) → MatchOption found (NoneHasBlock w block entries) (IsLastValue w block entries) → Has block found
+  kept : (block : Network) → ¬ (block_of w n ≡ block) → (found : Option V)
+      → MatchOption found (NoneHasBlock w block entries) (IsLastValue w block entries) → Has block found
   unfolding Has
   kept block differs None none = none_more w entries n v block differs none
   kept block differs (Some value) last = last_more w entries n v block differs value last
@@ -54,7 +50,8 @@ module _ {V : Type 0} (w : ℕ) (t : FinMap network_cmp V) (entries : List (Netw
   one_more : HasLastValues w entries t → HasLastValues w (entries ++ (n, v) ∷ []) (insert t (block_of w n) v)
   unfolding key Has
   one_more has block =
-      elim (eq_by_cmp network_cmp block key) as (λ b. eq_by_cmp network_cmp block key ≡ b → get (insert t key v) block ≡ cond b (Some v) (get t block) → Has block (get (insert t key v) block)) [
+      elim (eq_by_cmp network_cmp block key) as (λ b. eq_by_cmp network_cmp block key ≡ b
+      → get (insert t key v) block ≡ cond b (Some v) (get t block) → Has block (get (insert t key v) block)) [
         | true ↦ λ at is. subst (Has block) (sym is) (record {
           before = entries;
           network = n;
@@ -64,12 +61,14 @@ module _ {V : Type 0} (w : ℕ) (t : FinMap network_cmp V) (entries : List (Netw
           is_last = λ entry c. absurd (contains_nil entry c);
         })
         | false ↦ λ apart is. subst (Has block) (sym is)
-            (kept block (λ same. true≢false (sym (subst (λ (x : Network). eq_by_cmp network_cmp block x ≡ true) (sym same) ((eq_by_cmp_equiv total).refl block)) ∙ apart)) (get t block) (has block))
+            (kept block (λ same. true≢false (sym (subst (λ (x : Network). eq_by_cmp network_cmp block x ≡ true)
+            (sym same) ((eq_by_cmp_equiv total).refl block)) ∙ apart)) (get t block) (has block))
       ] refl (get-insert total t key v block)
 
 -- the last values with one more entry of a list
 module _ {V N : Type 0} (pair : N → Network) (w : ℕ) (entries : List (N × V)) where
-  pub one_entry_more : (t new : FinMap network_cmp V) (i : ℕ) (e : N × V) → take (i + 1) entries ≡ take i entries ++ e ∷ [] → new ≡ insert t (block_of w (pair e.0)) e.1
+  pub one_entry_more : (t new : FinMap network_cmp V) (i : ℕ) (e : N × V) → take (i + 1) entries ≡ take i entries ++ e
+      ∷ [] → new ≡ insert t (block_of w (pair e.0)) e.1
       → HasLastValues w (by_pair pair (take i entries)) t → HasLastValues w (by_pair pair (take (i + 1) entries)) new
   one_entry_more t new i e more is has =
       subst (λ (m : FinMap network_cmp V). HasLastValues w (by_pair pair (take (i + 1) entries)) m) (sym is)
@@ -77,5 +76,7 @@ module _ {V N : Type 0} (pair : N → Network) (w : ℕ) (entries : List (N × V
       (sym (ap (by_pair pair) more ∙ map_push (λ (e : N × V). (pair e.0, e.1)) (take i entries) e))
       (one_more w t (by_pair pair (take i entries)) (pair e.0) e.1 has))
 
-  pub all_entries : (t : FinMap network_cmp V) (i : ℕ) → length entries ≤ i → HasLastValues w (by_pair pair (take i entries)) t → HasLastValues w (by_pair pair entries) t
-  all_entries t i past has = subst (λ (l : List (N × V)). HasLastValues w (by_pair pair l) t) (take_all i entries past) has
+  pub all_entries : (t : FinMap network_cmp V) (i : ℕ) → length entries ≤ i
+      → HasLastValues w (by_pair pair (take i entries)) t → HasLastValues w (by_pair pair entries) t
+  all_entries t i past has = subst (λ (l : List (N × V)). HasLastValues w (by_pair pair l) t)
+      (take_all i entries past) has

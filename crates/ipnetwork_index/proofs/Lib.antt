@@ -7,8 +7,8 @@ pub mod Eights
 pub mod Examples
 pub mod Halving
 pub mod Inside
+pub mod Known
 pub mod LastValues
-pub mod LawExamples
 pub mod ListedBlocks
 pub mod Lowering
 pub mod PartCounts
@@ -17,4 +17,6 @@ pub mod Searching
 pub mod Starting
 pub mod Sweeping
 pub mod Telling
+pub mod TurnExamples
 pub mod Turning
+pub mod Words

@@ -1,24 +1,5 @@
 -- The blocks of a list of networks as the entries of a table.
-use Rattle.std.proofs.Common.{◌≡◌, ℕ, zero, suc, ◌&&◌, T, Bool, true, false, List, [], ◌∷◌, map, arith, sym, refl, ap, subst, ◌∙◌, Some, is_some, slice_get, Ordering}
-use Rattle.std.specs.declared.cmp.Ordering.TheVariants.{Less, Equal}
-use Rattle.std.specs.Cmp.{IsTotalOrder, IsEquivalence}
-use Rattle.std.specs.Ordering.{eq_by_cmp, is_lt}
-use Rattle.std.specs.List.{All, AllByRecursion, Contains, dedup}
-use Rattle.std.specs.List.Sorted.{IsSorted, IsStrictlySortedBy, IsPermutation}
-use Rattle.std.specs.Option.{unwrap_or}
-use Rattle.std.specs.FinMap.{get, entries, from_sorted, is_sorted, entries-from_sorted}
-use Rattle.std.specs.FinMap.Entries.{below_all}
-use Rattle.std.proofs.lemmas.List.Elements.{All-contains, All-contains_itself, All-weaker}
-use Rattle.std.proofs.lemmas.List.Kept.{Any-dedup, Contains-from_dedup, IsStrictlySortedBy-dedup}
-use Rattle.std.proofs.lemmas.List.Sorted.{Contains-permutation, IsPermutation-sym}
-use Rattle.ipnetwork_blocks.proofs.LeastLists.{contains_nil}
-use Rattle.ipnetwork_family.specs.Network.{Network, IsCidrBlock, block_of, network_cmp}
-use Rattle.ipnetwork_table.specs.Laws.{ListedIsStored, StoredIsListed}
-use Rattle.ipnetwork_table.specs.Table.{HasOnlyBlocks}
-use Rattle.ipnetwork_table.proofs.Pairs.{one_network, tie_of}
-use Rattle.ipnetwork_index.specs.Entries.{HasBlocksOf, HasValue}
-use Rattle.ipnetwork_index.specs.Private.Listings.{AreListedBlocks}
-use Rattle.ipnetwork_index.specs.Private.Sweeps.{HasEntries}
+use Rattle.ipnetwork_index.proofs.Words.{◌≡◌, ℕ, zero, suc, ◌&&◌, T, Bool, true, false, List, [], ◌∷◌, map, arith, sym, refl, ap, subst, ◌∙◌, Some, is_some, slice_get, Ordering, Less, Equal, IsTotalOrder, IsEquivalence, eq_by_cmp, is_lt, All, AllByRecursion, Contains, dedup, IsSorted, IsStrictlySortedBy, IsPermutation, unwrap_or, get, entries, from_sorted, is_sorted, entries-from_sorted, below_all, All-contains, All-contains_itself, All-weaker, Any-dedup, Contains-from_dedup, IsStrictlySortedBy-dedup, Contains-permutation, IsPermutation-sym, contains_nil, Network, IsCidrBlock, block_of, network_cmp, ListedIsStored, StoredIsListed, HasOnlyBlocks, one_network, tie_of, HasBlocksOf, HasValue, AreListedBlocks, HasEntries}
 use Rattle.ipnetwork_index.proofs.Edging.{contains_of_map, map_of_contains, nothing, some_value}
 
 both_hold : (a b : Bool) → T a → T b → T (a && b)

@@ -1,12 +1,5 @@
 -- Numbers represented by the part that they lie in and by their last 16 bits.
-use Rattle.std.proofs.Common.{◌≡◌, ℕ, ◌+◌, ◌-◌, ◌/◌, ◌%◌, ◌^◌, ◌<◌, ◌≤◌, ◌∙◌, List, [], ◌∷◌, ◌++◌, length, get_or, map, take, arith, sym, ap, subst, ⊎_elim}
-use Rattle.std.proofs.lemmas.Bool.{cases_lt}
-use Rattle.std.proofs.lemmas.List.{get_or_read, map-append, take_more}
-use Rattle.std.proofs.lemmas.Nat.{pow-add}
-use Rattle.std.proofs.Math.Nat.{div-div-eq-div-mul, mod-eq_of_lt}
-use Rattle.std.proofs.Math.Pow.{pow_mono, shr_mono}
-use Rattle.ipnetwork_index.specs.Private.LowHalves.{AreLowHalvesOf, AreRising, IsFirstFrom, IsFirstOf, IsRunOfLess}
-use Rattle.ipnetwork_index.specs.Private.Partitions.{LiesAt}
+use Rattle.ipnetwork_index.proofs.Words.{◌≡◌, ℕ, ◌+◌, ◌-◌, ◌/◌, ◌%◌, ◌^◌, ◌<◌, ◌≤◌, ◌∙◌, List, [], ◌∷◌, ◌++◌, length, get_or, map, take, arith, sym, ap, subst, ⊎_elim, cases_lt, get_or_read, map-append, take_more, pow-add, div-div-eq-div-mul, mod-eq_of_lt, pow_mono, shr_mono, AreLowHalvesOf, AreRising, IsFirstFrom, IsFirstOf, IsRunOfLess, LiesAt}
 
 -- ---- numbers of one part
 

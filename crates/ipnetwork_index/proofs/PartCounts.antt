@@ -1,10 +1,5 @@
 -- The number of parts for a number of ranges.
-use Rattle.std.proofs.Common.{◌≡◌, ℕ, suc, ◌+◌, ◌-◌, ◌*◌, ◌^◌, ◌<◌, ◌≤◌, arith, sym, subst, ⊎_elim, min}
-use Rattle.std.specs.Int.Count.{count_leading_zeros}
-use Rattle.std.proofs.lemmas.Bool.{cases_lt}
-use Rattle.std.proofs.lemmas.Nat.{leading_top, mul-le, pow-add, pow_pos}
-use Rattle.std.proofs.Math.Nat.{mul-suc, mul-zero, pow-le-pow_right, two-pow-succ}
-use Rattle.ipnetwork_index.specs.Parts.{HasParts}
+use Rattle.ipnetwork_index.proofs.Words.{◌≡◌, ℕ, suc, ◌+◌, ◌-◌, ◌*◌, ◌^◌, ◌<◌, ◌≤◌, arith, sym, subst, ⊎_elim, min, count_leading_zeros, cases_lt, leading_top, mul-le, pow-add, pow_pos, mul-suc, mul-zero, pow-le-pow_right, two-pow-succ, HasParts}
 
 -- n is at least 1 and has this number of bits
 pub record HasBits (n bits : ℕ) : Type 0 where

@@ -1,9 +1,5 @@
 -- The search for a number among ascending numbers.
-use Rattle.std.proofs.Common.{◌≡◌, ◌↔◌, Bool, IsTrue, false, true≢false, ◌∙◌, ℕ, zero, suc, [], ◌∷◌, map, ap, ◌+◌, ◌-◌, ◌*◌, ◌^◌, ◌<◌, ◌≤◌, List, length, get_or, arith, sym, subst, ⊎_elim}
-use Rattle.std.proofs.lemmas.Bool.{cases_lt}
-use Rattle.ipnetwork_index.specs.Parts.{IsPart}
-use Rattle.ipnetwork_index.specs.Searches.{Ascends, IsSearchable, IsWithin, IsPlaceOf}
-use Rattle.ipnetwork_index.specs.Private.Steps.{IsOneIfLess, IsStep, HasComeTo, IsBetween}
+use Rattle.ipnetwork_index.proofs.Words.{◌≡◌, ◌↔◌, Bool, IsTrue, false, true≢false, ◌∙◌, ℕ, zero, suc, [], ◌∷◌, map, ap, ◌+◌, ◌-◌, ◌*◌, ◌^◌, ◌<◌, ◌≤◌, List, length, get_or, arith, sym, subst, ⊎_elim, cases_lt, IsPart, Ascends, IsSearchable, IsWithin, IsPlaceOf, IsOneIfLess, IsStep, HasComeTo, IsBetween}
 
 -- what is read from a list of plain numbers
 pub read_number : {X : Type 0} (f : X → ℕ) (xs : List X) (k : ℕ) (x : X) → k < length xs

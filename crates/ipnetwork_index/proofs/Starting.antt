@@ -1,14 +1,5 @@
 -- The fields of a new partition.
-use Rattle.std.proofs.Common.{◌≡◌, ◌≢◌, ℕ, zero, suc, ◌+◌, ◌-◌, ◌*◌, ◌^◌, ◌<◌, ◌≤◌, List, [], ◌∷◌, ◌++◌, length, get_or, take, slice_set, arith, sym, refl, ◌∙◌, subst, ⊎_elim, append_assoc, length-append}
-use Rattle.std.proofs.lemmas.Bool.{cases_lt, cases_eq}
-use Rattle.std.proofs.lemmas.List.{get_or_append_left, get_or-append-add, get_or-set_same, get_or-set_other, get_or-take, length-take}
-use Rattle.std.proofs.Math.Nat.{mul-le-mul_right}
-use Rattle.std.proofs.Math.Seq.{take-append_seam}
-use Rattle.ipnetwork_index.specs.Parts.{IsPart}
-use Rattle.ipnetwork_index.specs.Searches.{IsStart, AreStarts, IsPlaceOf, IsWithin}
-use Rattle.ipnetwork_index.specs.Private.Partitions.{IsPartition, LiesAt}
-use Rattle.ipnetwork_index.specs.Private.Padded.{unpadded, IsPadded, Pads}
-use Rattle.ipnetwork_index.specs.Private.Steps.{AreStartsSoFar}
+use Rattle.ipnetwork_index.proofs.Words.{◌≡◌, ◌≢◌, ℕ, zero, suc, ◌+◌, ◌-◌, ◌*◌, ◌^◌, ◌<◌, ◌≤◌, List, [], ◌∷◌, ◌++◌, length, get_or, take, slice_set, arith, sym, refl, ◌∙◌, subst, ⊎_elim, append_assoc, length-append, cases_lt, cases_eq, get_or_append_left, get_or-append-add, get_or-set_same, get_or-set_other, get_or-take, length-take, mul-le-mul_right, take-append_seam, IsPart, IsStart, AreStarts, IsPlaceOf, IsWithin, IsPartition, LiesAt, unpadded, IsPadded, Pads, AreStartsSoFar}
 
 -- ---- where the search for a part begins
 

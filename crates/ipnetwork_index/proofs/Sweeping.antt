@@ -1,19 +1,5 @@
 -- The open blocks determine what a look-up finds.
-use Rattle.std.proofs.Common.{◌≡◌, ◌≢◌, ◌↔◌, Bool, false, IsTrue, ℕ, ◌+◌, ◌-◌, ◌<◌, ◌≤◌, List, [], ◌∷◌, ◌++◌, length, get_or, arith, sym, refl, ap, subst, ◌∙◌, ⊎_elim, Option, None, Some, is_some, slice_get, length-append}
-use Rattle.std.specs.List.{Contains}
-use Rattle.std.specs.Option.{option_map, option_to_list}
-use Rattle.std.specs.FinMap.{FinMap, get, entries}
-use Rattle.std.proofs.lemmas.Bool.{cases_lt, cases_eq}
-use Rattle.std.proofs.lemmas.List.{append-nil, length-map, get_or_append_left, get_or_default, get_or_push}
-use Rattle.std.proofs.lemmas.List.Elements.{Contains-append_cases, Contains-append_left, Contains-push}
-use Rattle.std.proofs.lemmas.Option.{slice_get_within, slice_get-get_or, slice_get-map, slice_get_read, get_or_from_slice_get}
-use Rattle.ipnetwork_family.specs.Network.{Network, Member, low, high, network_cmp}
-use Rattle.ipnetwork_family.proofs.Blocks.{size_pos, within_member, member_within, subnet_from, shares_address}
-use Rattle.ipnetwork_blocks.proofs.LeastLists.{contains_cons, contains_nil}
-use Rattle.ipnetwork_table.specs.Laws.{ListedIsStored, StoredIsListed, EntriesAscend, WiderBlocksFirst}
-use Rattle.ipnetwork_table.specs.Table.{HasOnlyBlocks, IsLongest, NoneHolds, by_pair}
-use Rattle.ipnetwork_index.specs.Private.Answers.{Tells}
-use Rattle.ipnetwork_index.specs.Private.Sweeps.{AreListed, AreOpen, ArePlaces, KeepsOpen, NextIsAfter, LastEndsFrom, IsInnermost}
+use Rattle.ipnetwork_index.proofs.Words.{◌≡◌, ◌≢◌, ◌↔◌, Bool, false, IsTrue, ℕ, ◌+◌, ◌-◌, ◌<◌, ◌≤◌, List, [], ◌∷◌, ◌++◌, length, get_or, arith, sym, refl, ap, subst, ◌∙◌, ⊎_elim, Option, None, Some, is_some, slice_get, length-append, Contains, option_map, option_to_list, FinMap, get, entries, cases_lt, cases_eq, append-nil, length-map, get_or_append_left, get_or_default, get_or_push, Contains-append_cases, Contains-append_left, Contains-push, slice_get_within, slice_get-get_or, slice_get-map, slice_get_read, get_or_from_slice_get, Network, Member, low, high, network_cmp, size_pos, within_member, member_within, subnet_from, shares_address, contains_cons, contains_nil, ListedIsStored, StoredIsListed, EntriesAscend, WiderBlocksFirst, HasOnlyBlocks, IsLongest, NoneHolds, by_pair, Tells, AreListed, AreOpen, ArePlaces, KeepsOpen, NextIsAfter, LastEndsFrom, IsInnermost}
 use Rattle.ipnetwork_index.proofs.Chains.{nested_more, same_item}
 use Rattle.ipnetwork_index.proofs.Edging.{some_value}
 use Rattle.ipnetwork_index.proofs.Searching.{at_most}

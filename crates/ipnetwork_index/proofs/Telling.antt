@@ -1,8 +1,5 @@
 -- A column of answers.
-use Rattle.std.proofs.Common.{◌≡◌, ◌≢◌, ℕ, ◌+◌, ◌<◌, ◌≤◌, List, length, map, get_or, set, arith, sym, subst, ◌∙◌, ⊎_elim}
-use Rattle.std.proofs.lemmas.Bool.{cases_lt}
-use Rattle.std.proofs.lemmas.List.{length-map, length-set, get_or-set_same, get_or-set_other}
-use Rattle.ipnetwork_index.specs.Columns.{AreAnsweredUpTo}
+use Rattle.ipnetwork_index.proofs.Words.{◌≡◌, ◌≢◌, ℕ, ◌+◌, ◌<◌, ◌≤◌, List, length, map, get_or, set, arith, sym, subst, ◌∙◌, ⊎_elim, cases_lt, length-map, length-set, get_or-set_same, get_or-set_other, AreAnsweredUpTo}
 use Rattle.ipnetwork_index.proofs.Searching.{read_number}
 
 -- one more answer

@@ -2,7 +2,7 @@
 pub mod Columns
 pub mod Entries
 pub mod Halves
-pub mod Parts
+pub mod NumberParts
 pub mod Private
 pub mod Searches
 pub mod Turns

@@ -1,10 +1,8 @@
 -- Where a set of addresses, or a block of a table, begins and ends.
-use Rattle.std.specs.Prelude.{◌≡◌, ℕ, ◌+◌, ◌*◌, ◌^◌, ◌<◌, ◌≤◌, ◌⊎◌, List, length, IsSome}
-use Rattle.std.specs.FinMap.{FinMap, get, len}
+use Rattle.std.specs.Prelude.{◌≡◌, ℕ, ◌+◌, ◌^◌, ◌<◌, ◌⊎◌, IsSome}
+use Rattle.std.specs.FinMap.{FinMap, get}
 use Rattle.ipnetwork_family.specs.Network.{Network, low, high, network_cmp}
-use Rattle.ipnetwork_blocks.specs.Aggregate.{InUnion}
 use Rattle.ipnetwork_sets.specs.Counts.{HasCount}
-use Rattle.ipnetwork_sets.specs.Sets.{IsAddressSet}
 
 -- of the numbers x and x + 1 of w bits, one is in the set and the other is not
 abbrev pub IsTurn : ℕ → (ℕ → Type 0) → ℕ → Type 0
@@ -13,11 +11,6 @@ IsTurn w set x = (x + 1 < 2 ^ w) × ((set x × ¬ (set (x + 1))) ⊎ (¬ (set x)
 -- the turns of the set cut the numbers of w bits into n ranges, each entirely inside the set or entirely outside it
 abbrev pub CutInto : ℕ → (ℕ → Type 0) → ℕ → Type 0
 CutInto w set n = (turns : ℕ) × HasCount (IsTurn w set) turns × (n ≡ turns + 1)
-
--- a set of k blocks cuts the addresses into at most 2 k + 1 ranges
-abbrev pub SetHasFewRanges : Type 0
-SetHasFewRanges = (w : ℕ) (blocks : List Network) (n : ℕ) → IsAddressSet w blocks
-    → CutInto w (InUnion w blocks) n → n ≤ 2 * length blocks + 1
 
 -- a block of the table ends at x, or one begins at x + 1
 abbrev pub HasEdge : {V : Type 0} → ℕ → FinMap network_cmp V → ℕ → Type 0
@@ -30,8 +23,3 @@ IsEdge w t x = (x + 1 < 2 ^ w) × HasEdge w t x
 -- the starts and ends of the table's blocks cut the numbers of w bits into n ranges
 abbrev pub CutByBlocks : {V : Type 0} → ℕ → FinMap network_cmp V → ℕ → Type 0
 CutByBlocks w t n = (edges : ℕ) × HasCount (IsEdge w t) edges × (n ≡ edges + 1)
-
--- a table of k blocks cuts the numbers into at most 2 k + 1 ranges
-abbrev pub TableHasFewRanges : Type 0 → Type 0
-TableHasFewRanges V = (w : ℕ) (t : FinMap network_cmp V) (n : ℕ) → CutByBlocks w t n
-    → n ≤ 2 * len t + 1

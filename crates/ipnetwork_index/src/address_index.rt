@@ -123,10 +123,10 @@ impl<N: IndexedNetwork> AddressIndex<N> {
     }
 
     /// The number of ranges that the set cuts the addresses into: each lies entirely inside or
-    /// entirely outside the set. There are at most one more than twice as many ranges as blocks
-    /// (`laws::few_ranges`). The index has the last number of each range, of 4 bytes for IPv4 and
-    /// 16 for IPv6, for IPv6 possibly its high half again, of 8, and places of 4 bytes: two to four
-    /// for each range, or one to two from 2^14 ranges on (`part_bits`), but no more than 2^20.
+    /// entirely outside the set. There are at most one more than twice as many ranges as blocks. The
+    /// index has the last number of each range, of 4 bytes for IPv4 and 16 for IPv6, for IPv6
+    /// possibly its high half again, of 8, and places of 4 bytes: two to four for each range, or one
+    /// to two from 2^14 ranges on (`part_bits`), but no more than 2^20.
     ///
     /// ```
     /// let networks = vec![in rt.alloc(); "192.0.2.0/25".parse::<Ipv4Network>()?]?;

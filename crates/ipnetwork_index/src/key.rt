@@ -1,6 +1,6 @@
 //! Plain numbers to search for.
 ghost use Rattle.std.specs.Prelude.{◌↔◌, ℕ, ◌<◌, IsTrue};
-ghost use Rattle.ipnetwork_index.specs.Parts.{IsPart};
+ghost use Rattle.ipnetwork_index.specs.NumberParts.{IsPart};
 
 /// A plain number that is searched for among others: `u32`, `u64` or `u128`. No call allocates.
 ///

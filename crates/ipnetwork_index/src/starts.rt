@@ -1,6 +1,6 @@
 //! Where the search for a number begins.
 ghost use Rattle.std.specs.Prelude.{◌*◌, ◌/◌, ◌^◌, ◌<◌, ◌≤◌, length, map};
-ghost use Rattle.ipnetwork_index.specs.Parts.{HasParts};
+ghost use Rattle.ipnetwork_index.specs.NumberParts.{HasParts};
 ghost use Rattle.ipnetwork_index.specs.Searches.{IsStart, AreStarts};
 
 use crate::key::Key;

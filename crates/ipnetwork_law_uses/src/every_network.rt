@@ -1,7 +1,7 @@
 //! What follows from the laws of every implementation of `CidrNetwork` for networks of each family,
 //! with host bits and of any prefix length.
 ghost use Rattle.std.specs.Prelude.{◌≡◌, ◌↔◌, IsTrue, IsFalse};
-ghost use Rattle.ipnetwork_family.specs.Network.{Member, Subnet, Overlap, HostBitsAreZero, high};
+ghost use Rattle.ipnetwork_family.specs.Network.{Member, Subnet, Overlap, HostBitsAreZero, high, network_cmp};
 
 use ipnetwork_family::laws::{
     blocks_that_meet, nested_networks, networks_are_pairs, ordered_blocks, overlaps_by_four_tests,
@@ -117,4 +117,16 @@ fn v6_blocks_are_apart(a: Ipv6Network, b: Ipv6Network) -> bool
 {
     blocks_that_meet(a, b);
     networks_are_pairs(a, b).0
+}
+
+fn v4_networks_are_ordered_as_pairs(a: Ipv4Network, b: Ipv4Network) -> Ordering
+    ensures { result ≡ network_cmp a b }
+{
+    networks_are_pairs(a, b).1
+}
+
+fn v6_networks_are_ordered_as_pairs(a: Ipv6Network, b: Ipv6Network) -> Ordering
+    ensures { result ≡ network_cmp a b }
+{
+    networks_are_pairs(a, b).1
 }

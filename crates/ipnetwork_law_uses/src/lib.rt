@@ -1,13 +1,19 @@
-//! What follows from the laws of values, and would not follow from weaker ones. Each law of `==`,
-//! the order, hashes and clones is used at values, and each law of every implementation of
-//! `CidrNetwork` at networks of both families.
+//! Uses of the laws of the libraries. Each function calls a law, and its contract is what follows
+//! from it: for addresses, networks, sets and tables of both widths, or of either family.
 //!
-//! Nothing calls these functions, and no crate depends on this one. Laws of numbers, sets and texts
-//! are used in the proofs of their own crates.
+//! Nothing calls these functions, and no crate depends on this one. `tests/laws` empties each clause
+//! of each law in turn, and sees that a use of it is then not proved.
+//! Where a check would prove a use without its law, the proof is written out and cites the law.
 #![tactic(auto)]
 
+mod address_sets;
+mod address_texts;
 mod addresses;
+mod either_texts;
 mod every_network;
+mod network_texts;
 mod networks;
 mod of_either_family;
 mod orders;
+mod sets_of_networks;
+mod tables;

@@ -1,30 +1,17 @@
 -- Counts, ranges, lists, free blocks and texts at which a misreading of the definitions would show.
-use Rattle.std.proofs.Common.{◌≡◌, ◌∙◌, ℕ, ◌-◌, ◌*◌, ◌/◌, ◌^◌, ◌+◌, ◌<◌, ◌≤◌, sym, refl, subst, ⊎_elim, ap, arith, List, [], ◌∷◌, ◌++◌, length, Ok, Err}
-use Rattle.std.specs.List.{Contains}
-use Rattle.ipnetwork_family.specs.Network.{Network, IsCidrBlock, Member}
-use Rattle.ipnetwork_family.proofs.Blocks.{subnet_from}
-use Rattle.ipnetwork_family.specs.declared.error.NetworkSizeError.{NetworkSizeError}
-use Rattle.ipnetwork_blocks.specs.LeastList.{IsLeastList}
-use Rattle.ipnetwork_blocks.specs.Ranges.{FromTo}
-use Rattle.ipnetwork_blocks.specs.Private.RangeList.{blocks_within}
-use Rattle.ipnetwork_blocks.proofs.LeastLists.{contains_cons, contains_nil, contains_head, contains_tail, least_unique}
-use Rattle.ipnetwork_blocks.proofs.RangeLists.{least_from_to, least_from_after}
-use Rattle.ipnetwork_sets.specs.Counts.{FitsNumber, count_number}
-use Rattle.ipnetwork_sets.specs.FreeBlocks.{IsFreeBlock, NoBlockIsFree, IsFirstFree}
-use Rattle.ipnetwork_sets.specs.RangeLists.{IsRangeList, InRanges, AreBlocksOf}
-use Rattle.ipnetwork_sets.specs.Sets.{AddsLeastList, AddsFirstOfLeastList, MeetsUnion}
-use Rattle.ipnetwork_sets.specs.Texts.{lines_of}
-use Rattle.ipnetwork_sets.specs.declared.address_count.AddressCount.TheVariants.{Number, AllOfIpv6}
+use Rattle.ipnetwork_sets.proofs.Words.{◌≡◌, ◌∙◌, ℕ, ◌-◌, ◌*◌, ◌/◌, ◌^◌, ◌+◌, ◌<◌, ◌≤◌, sym, refl, subst, ⊎_elim, ap, arith, List, [], ◌∷◌, ◌++◌, length, Ok, Err, Contains, Network, IsCidrBlock, Member, subnet_from, NetworkSizeError, IsLeastList, FromTo, blocks_within, contains_cons, contains_nil, contains_head, contains_tail, least_unique, least_from_to, least_from_after, FitsNumber, count_number, IsFreeBlock, NoBlockIsFree, IsFirstFree, IsRangeList, InRanges, AreBlocksOf, AddsLeastList, AddsFirstOfLeastList, MeetsUnion, lines_of, Number, AllOfIpv6}
 
 abbrev net : ℕ → ℕ → Network
 net address prefix = record { address = address; prefix = prefix }
 
 -- ---- 2^128 - 1 fits in 128 bits, and 2^128 does not
 
-pub greatest_number : FitsNumber (Number 340282366920938463463374607431768211455) (Ok 340282366920938463463374607431768211455)
+pub greatest_number : FitsNumber (Number 340282366920938463463374607431768211455)
+    (Ok 340282366920938463463374607431768211455)
 greatest_number = (omega arith, refl)
 
-pub greatest_number_is_not_refused : (fault : NetworkSizeError) → ¬ (FitsNumber (Number 340282366920938463463374607431768211455) (Err fault))
+pub greatest_number_is_not_refused : (fault : NetworkSizeError)
+    → ¬ (FitsNumber (Number 340282366920938463463374607431768211455) (Err fault))
 greatest_number_is_not_refused fault h = omega (arith, h)
 
 pub all_of_ipv6_is_refused : (n : ℕ) → ¬ (FitsNumber AllOfIpv6 (Ok n))
@@ -36,7 +23,8 @@ number_of_all_of_ipv6 = refl
 -- ---- a range has both its ends and no address outside them, and a reversed range has no addresses
 
 pub last_is_in_the_range : InRanges ((7, 7) ∷ (2, 4) ∷ []) 4
-last_is_in_the_range = ((2, 4), contains_tail (7, 7) ((2, 4) ∷ []) (2, 4) (contains_head (2, 4) []), (omega arith, omega arith))
+last_is_in_the_range =
+    ((2, 4), contains_tail (7, 7) ((2, 4) ∷ []) (2, 4) (contains_head (2, 4) []), (omega arith, omega arith))
 
 pub first_is_in_the_range : InRanges ((2, 4) ∷ []) 2
 first_is_in_the_range = ((2, 4), contains_head (2, 4) [], (omega arith, omega arith))
@@ -97,7 +85,8 @@ second_address (x ∷ xs) = first_address xs
 pub second_without_the_first : ¬ (AddsFirstOfLeastList 3 (FromTo 1 2) (net 7 3 ∷ []) (net 7 3 ∷ net 2 3 ∷ []))
 second_without_the_first h = go h.0 h.1 h.2 h.3
   where
-    go : (some others : List Network) → IsLeastList 3 (FromTo 1 2) (some ++ others) → net 7 3 ∷ net 2 3 ∷ [] ≡ net 7 3 ∷ some → ⊥
+    go : (some others : List Network) → IsLeastList 3 (FromTo 1 2) (some ++ others)
+        → net 7 3 ∷ net 2 3 ∷ [] ≡ net 7 3 ∷ some → ⊥
     go [] others h e = omega (arith, ap length e)
     go (x ∷ xs) others h e =
         let both = least_unique 3 (FromTo 1 2) (net 1 3 ∷ net 2 3 ∷ []) (x ∷ (xs ++ others)) one_and_two h in
@@ -112,12 +101,19 @@ first_alone h =
 -- the blocks of two ranges are in the order of the ranges and are not joined
 pub blocks_of_two : AreBlocksOf 3 ((3, 3) ∷ (2, 2) ∷ []) (net 3 3 ∷ net 2 3 ∷ [])
 unfolding blocks_within
-blocks_of_two = (net 3 3 ∷ [], net 2 3 ∷ [], least_from_to 3 3 3 (omega arith), (net 2 3 ∷ [], [], least_from_to 3 2 2 (omega arith), refl, refl), refl)
+blocks_of_two = (
+  net 3 3 ∷ [],
+  net 2 3 ∷ [],
+  least_from_to 3 3 3 (omega arith),
+  (net 2 3 ∷ [], [], least_from_to 3 2 2 (omega arith), refl, refl),
+  refl,
+)
 
 -- no other blocks follow those of the ranges
 pub blocks_of_one : (blocks : List Network) → AreBlocksOf 3 ((1, 2) ∷ []) blocks → blocks ≡ net 1 3 ∷ net 2 3 ∷ []
 blocks_of_one blocks (first, others, least, none, all) =
-    all ∙ ap (λ (xs : List Network). xs ++ others) (least_unique 3 (FromTo 1 2) first (net 1 3 ∷ net 2 3 ∷ []) least one_and_two)
+    all ∙ ap (λ (xs : List Network). xs ++ others)
+    (least_unique 3 (FromTo 1 2) first (net 1 3 ∷ net 2 3 ∷ []) least one_and_two)
     ∙ ap (λ (ys : List Network). net 1 3 ∷ net 2 3 ∷ ys) none
 
 -- a reversed range has no blocks
@@ -132,7 +128,8 @@ is_block a p l m e = record { network = record { address_fits = l; prefix_fits =
 apart : (x : ℕ) → Member 3 (net 2 2) x → MeetsUnion 3 (net 2 2) (net 0 2 ∷ []) → ⊥
 apart x m c =
     ⊎_elim
-    (λ (e : net 0 2 ≡ c.2.0). let first : Member 3 (net 0 2) c.0 = subst (λ (n : Network). Member 3 n c.0) (sym e) c.2.2 in
+    (λ (e : net 0 2 ≡ c.2.0).
+    let first : Member 3 (net 0 2) c.0 = subst (λ (n : Network). Member 3 n c.0) (sym e) c.2.2 in
     let low : c.0 / 2 ≡ 0 = first.1 in
     let high : c.0 / 2 ≡ 1 = c.1.1 in
     omega (arith, low, high))
@@ -159,10 +156,12 @@ some_quarter_is_free none = none (net 2 2) second_quarter
 pub first_is_free : (w p : ℕ) (n b : Network) (ns : List Network) → IsFirstFree w n ns p b → IsFreeBlock w n ns p b
 first_is_free w p n b ns h = h.one
 
-pub none_before_the_first : (w p : ℕ) (n b other : Network) (ns : List Network) → IsFirstFree w n ns p b → other.address < b.address → ¬ (IsFreeBlock w n ns p other)
+pub none_before_the_first : (w p : ℕ) (n b other : Network) (ns : List Network) → IsFirstFree w n ns p b
+    → other.address < b.address → ¬ (IsFreeBlock w n ns p other)
 none_before_the_first w p n b other ns h before free = omega (arith, h.first other free, before)
 
-pub not_none_if_one_is_free : (w p : ℕ) (n b : Network) (ns : List Network) → IsFreeBlock w n ns p b → ¬ (NoBlockIsFree w n ns p)
+pub not_none_if_one_is_free : (w p : ℕ) (n b : Network) (ns : List Network) → IsFreeBlock w n ns p b
+    → ¬ (NoBlockIsFree w n ns p)
 not_none_if_one_is_free w p n b ns free none = none b free
 
 -- ---- a line feed follows each text, including the last

@@ -1,15 +1,5 @@
 -- A set has fewer blocks than there are addresses.
-use Rattle.std.proofs.Common.{◌≡◌, ℕ, ◌-◌, ◌+◌, ◌^◌, ◌<◌, ◌≤◌, inl, inr, ap, subst, arith, ⊎_elim, List, [], ◌∷◌, length}
-use Rattle.std.proofs.Math.Pow.{pow_mono}
-use Rattle.std.proofs.lemmas.Bool.{cases_lt}
-use Rattle.ipnetwork_family.specs.Network.{Network, IsNetwork, IsCidrBlock, Member, block_size}
-use Rattle.ipnetwork_family.proofs.Blocks.{size_pos, high_fits}
-use Rattle.ipnetwork_blocks.specs.Aggregate.{InUnion}
-use Rattle.ipnetwork_blocks.specs.AggregateLaws.{AggregateIsApart}
-use Rattle.ipnetwork_blocks.proofs.LeastLists.{own_address, contains_head}
-use Rattle.ipnetwork_sets.specs.CountLaws.{SetHasFewerBlocks}
-use Rattle.ipnetwork_sets.specs.Counts.{total}
-use Rattle.ipnetwork_sets.specs.Sets.{IsAddressSet}
+use Rattle.ipnetwork_sets.proofs.Words.{◌≡◌, ℕ, ◌-◌, ◌+◌, ◌^◌, ◌<◌, ◌≤◌, inl, inr, ap, subst, arith, ⊎_elim, List, [], ◌∷◌, length, pow_mono, cases_lt, Network, IsNetwork, IsCidrBlock, Member, block_size, size_pos, high_fits, InUnion, AggregateIsApart, own_address, contains_head, SetHasFewerBlocks, total, IsAddressSet}
 use Rattle.ipnetwork_sets.proofs.Lists.{set_block}
 use Rattle.ipnetwork_sets.proofs.Steps.{tail_is_set, union_cons, union_behind, first_is_maximal}
 use Rattle.ipnetwork_sets.proofs.Totals.{total_fits, total_is_within}
@@ -21,7 +11,8 @@ at_least_one w [] = omega arith
 at_least_one w (b ∷ bs) = let rest = at_least_one w bs in let pos = size_pos w b.prefix in omega (arith, rest, pos)
 
 -- if there are as many blocks as addresses from `from` on, each of these addresses is in a block
-filled : (w : ℕ) (bs : List Network) (from : ℕ) → AggregateIsApart → IsAddressSet w bs → ((x : ℕ) → InUnion w bs x → from ≤ x) → 2 ^ w ≤ from + length bs → (x : ℕ) → from ≤ x → x < 2 ^ w
+filled : (w : ℕ) (bs : List Network) (from : ℕ) → AggregateIsApart → IsAddressSet w bs
+    → ((x : ℕ) → InUnion w bs x → from ≤ x) → 2 ^ w ≤ from + length bs → (x : ℕ) → from ≤ x → x < 2 ^ w
     → InUnion w bs x
 filled w [] from apart h all many x le l = absurd (omega arith)
 filled w (b ∷ bs) from apart h all many x le l =
@@ -31,12 +22,14 @@ filled w (b ∷ bs) from apart h all many x le l =
     let top = high_fits w b hb.network in
     let block = hb.block in
     let tail = tail_is_set w b bs apart h in
-    let behind : (y : ℕ) → InUnion w bs y → b.address + block_size w b.prefix ≤ y = λ y c. let k = union_behind w b bs apart h y c in omega (arith, k, block, pos) in
+    let behind : (y : ℕ) → InUnion w bs y → b.address + block_size w b.prefix ≤ y = λ y c. let k =
+    union_behind w b bs apart h y c in omega (arith, k, block, pos) in
     let fits = total_fits w bs (b.address + block_size w b.prefix) apart tail behind (omega (arith, top, block)) in
     let few = at_least_one w bs in
     let one : b.address + block_size w b.prefix ≤ from + 1 = omega (arith, own, pos, fits, few, many) in
     ⊎_elim
-    (λ (k : from < x). (union_cons w b bs x).1 (inr (filled w bs (b.address + block_size w b.prefix) apart tail behind (omega (arith, own, pos, many)) x (omega (arith, one, k)) l)))
+    (λ (k : from < x). (union_cons w b bs x).1 (inr (filled w bs (b.address + block_size w b.prefix) apart tail behind
+    (omega (arith, own, pos, many)) x (omega (arith, one, k)) l)))
     (λ (k : x ≤ from).
     let is : b.address ≡ x = omega (arith, own, one, pos, le, k) in
     (union_cons w b bs x).1 (inl (subst (λ (y : ℕ). Member w b y) is (own_address w b hb.network))))

@@ -1,16 +1,5 @@
 -- The first free block of a prefix length lies in the first block of the free part that is wide enough.
-use Rattle.std.proofs.Common.{◌≡◌, ℕ, ◌<◌, ◌≤◌, sym, refl, ap, subst, ◌∙◌, arith, ⊎_elim, List, [], ◌∷◌, ◌++◌, append_assoc, Option, None, Some, MatchOption}
-use Rattle.std.specs.List.{AllPairs, Contains}
-use Rattle.std.proofs.lemmas.List.Elements.{Contains-append_cases, Contains-append_right}
-use Rattle.ipnetwork_family.specs.Network.{Network, Subnet, block_at}
-use Rattle.ipnetwork_family.proofs.Blocks.{subnet_prefix, within_member}
-use Rattle.ipnetwork_family.proofs.BlocksAt.{block_at_network, block_at_holds, block_at_subnet}
-use Rattle.ipnetwork_blocks.specs.Aggregate.{LiesInUnion}
-use Rattle.ipnetwork_blocks.specs.AggregateLaws.{AggregateHasNetworks}
-use Rattle.ipnetwork_blocks.specs.LeastList.{IsMaximalIn, IsLeastList}
-use Rattle.ipnetwork_blocks.proofs.LeastLists.{own_address, contains_cons, contains_head, contains_nil, pairs_tail, pairs_head}
-use Rattle.ipnetwork_sets.specs.FreeBlocks.{IsFreeBlock, NoBlockIsFree, IsFirstFree}
-use Rattle.ipnetwork_sets.specs.Sets.{IsAddressSet, InNetworkAlone}
+use Rattle.ipnetwork_sets.proofs.Words.{◌≡◌, ℕ, ◌<◌, ◌≤◌, sym, refl, ap, subst, ◌∙◌, arith, ⊎_elim, List, [], ◌∷◌, ◌++◌, append_assoc, Option, None, Some, MatchOption, AllPairs, Contains, Contains-append_cases, Contains-append_right, Network, Subnet, block_at, subnet_prefix, within_member, block_at_network, block_at_holds, block_at_subnet, LiesInUnion, AggregateHasNetworks, IsMaximalIn, IsLeastList, own_address, contains_cons, contains_head, contains_nil, pairs_tail, pairs_head, IsFreeBlock, NoBlockIsFree, IsFirstFree, IsAddressSet, InNetworkAlone}
 use Rattle.ipnetwork_sets.proofs.SetLaws.{free_is_shortest, least_is_set}
 
 -- the blocks passed have a longer prefix length, and `left` are the blocks after them
@@ -26,7 +15,8 @@ passing_starts all p = record {
   longer = λ b c. absurd (contains_nil b c);
 }
 
-pub passing_goes_on : (all : List Network) (p : ℕ) (left after : List Network) (b : Network) → IsPassing all p left → left ≡ b ∷ after → p < b.prefix → IsPassing all p after
+pub passing_goes_on : (all : List Network) (p : ℕ) (left after : List Network) (b : Network) → IsPassing all p left
+    → left ≡ b ∷ after → p < b.prefix → IsPassing all p after
 passing_goes_on all p left after b h e l = record {
   passed = h.passed ++ b ∷ [];
   parts = h.parts ∙ ap (λ t. h.passed ++ t) e ∙ sym (append_assoc h.passed (b ∷ []) after);
@@ -46,7 +36,8 @@ pairs_behind R (x ∷ xs) ys h = pairs_behind R xs ys (pairs_tail R x (xs ++ ys)
 abbrev Before : Network → Network → Type 0
 Before a b = a.address < b.address
 
-module _ (w : ℕ) (n : Network) (a all : List Network) (p : ℕ) (networks : AggregateHasNetworks) (h : IsLeastList w (InNetworkAlone w n a) all) where
+module _ (w : ℕ) (n : Network) (a all : List Network) (p : ℕ) (networks : AggregateHasNetworks)
+    (h : IsLeastList w (InNetworkAlone w n a) all) where
   maximal : (b : Network) → Contains all b → IsMaximalIn w (InNetworkAlone w n a) b
   maximal b c = (h.maximal b).0 c
 
@@ -72,26 +63,31 @@ module _ (w : ℕ) (n : Network) (a all : List Network) (p : ℕ) (networks : Ag
       omega (arith, i.0, z)
 
   -- the block that it lies in is not one of those passed
-  not_passed : (left : List Network) (o b : Network) → IsPassing all p left → IsFreeBlock w n a p o → Contains all b → Subnet w o b → Contains left b
+  not_passed : (left : List Network) (o b : Network) → IsPassing all p left → IsFreeBlock w n a p o → Contains all b
+      → Subnet w o b → Contains left b
   not_passed left o b k f c sub =
       ⊎_elim
-      (λ (d : Contains k.passed b). let l = k.longer b d in let m = as_wide o b f c sub in let r : Contains left b = absurd (omega arith) in r)
+      (λ (d : Contains k.passed b). let l = k.longer b d in let m = as_wide o b f c sub in
+      let r : Contains left b = absurd (omega arith) in r)
       (λ (d : Contains left b). d)
       (Contains-append_cases k.passed left b (subst (λ (t : List Network). Contains t b) k.parts c))
 
   pub none_free : (left : List Network) → IsPassing all p left → left ≡ [] → NoBlockIsFree w n a p
   none_free left k e o f =
       let held = in_one o f in
-      contains_nil held.0 (subst (λ (t : List Network). Contains t held.0) e (not_passed left o held.0 k f held.1 held.2))
+      contains_nil held.0 (subst (λ (t : List Network). Contains t held.0) e
+      (not_passed left o held.0 k f held.1 held.2))
 
   pub none_so_long : w < p → NoBlockIsFree w n a p
   none_so_long l o f = let e = f.as_long in let fits = f.block.network.prefix_fits in omega (arith, e, fits, l)
 
   -- the first block that is wide enough has the first free block
-  pub first_in : (left after : List Network) (b : Network) → IsPassing all p left → left ≡ b ∷ after → b.prefix ≤ p → p ≤ w → IsFirstFree w n a p (block_at w b.address p)
+  pub first_in : (left after : List Network) (b : Network) → IsPassing all p left → left ≡ b ∷ after → b.prefix ≤ p
+      → p ≤ w → IsFirstFree w n a p (block_at w b.address p)
   first_in left after b k e wide fits =
       let here : Contains all b = subst (λ (t : List Network). Contains t b) (sym k.parts)
-      (Contains-append_right k.passed left b (subst (λ (t : List Network). Contains t b) (sym e) (contains_head b after))) in
+      (Contains-append_right k.passed left b
+      (subst (λ (t : List Network). Contains t b) (sym e) (contains_head b after))) in
       let m = maximal b here in
       let d : Network = block_at w b.address p in
       let block = block_at_network w b.address p m.network.address_fits fits in
@@ -112,13 +108,17 @@ module _ (w : ℕ) (n : Network) (a all : List Network) (p : ℕ) (networks : Ag
             let c : Network = held.0 in
             let start = begins o c f held.1 held.2 in
             ⊎_elim
-            (λ (g : b ≡ c). let same : b.address ≡ c.address = ap (λ t. t.address) g in let r : d.address ≤ o.address = omega (arith, i.0, z, start, same) in r)
-            (λ (g : Contains after c). let l = pairs_head Before b after up c g in let r : d.address ≤ o.address = omega (arith, i.0, z, start, l) in r)
-            (contains_cons b after c (subst (λ (t : List Network). Contains t c) e (not_passed left o c k f held.1 held.2)));
+            (λ (g : b ≡ c). let same : b.address ≡ c.address = ap (λ t. t.address) g in
+            let r : d.address ≤ o.address = omega (arith, i.0, z, start, same) in r)
+            (λ (g : Contains after c). let l = pairs_head Before b after up c g in
+            let r : d.address ≤ o.address = omega (arith, i.0, z, start, l) in r)
+            (contains_cons b after c (subst (λ (t : List Network). Contains t c) e
+            (not_passed left o c k f held.1 held.2)));
       }
 
   -- the call of `block` returns the first free block, or `None` if there is none
-  pub answers : (left after : List Network) (b : Network) {X : Type 0} (pair : X → Network) (found : Option X) (x : ℕ) → IsPassing all p left → left ≡ b ∷ after → b.prefix ≤ p
+  pub answers : (left after : List Network) (b : Network) {X : Type 0} (pair : X → Network) (found : Option X) (x : ℕ)
+      → IsPassing all p left → left ≡ b ∷ after → b.prefix ≤ p
       → x ≡ b.address → MatchOption found (w < p) (λ n. (p ≤ w) × (pair n ≡ block_at w x p))
       → MatchOption found (NoBlockIsFree w n a p) (λ d. IsFirstFree w n a p (pair d))
   answers left after b pair None x k e wide at m = none_so_long m

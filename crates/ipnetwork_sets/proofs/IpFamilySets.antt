@@ -1,16 +1,6 @@
 -- The operations on lists of networks of either family, family by family.
-use Rattle.std.proofs.Common.{◌≡◌, ◌↔◌, ℕ, ◌⊎◌, inl, inr, ⊎_elim, sym, subst, List}
-use Rattle.std.specs.List.{filter_map}
-use Rattle.ipnetwork_addr.specs.declared.ip.IpAddr.{IpAddr}
+use Rattle.ipnetwork_sets.proofs.Words.{◌≡◌, ◌↔◌, ℕ, ◌⊎◌, inl, inr, ⊎_elim, sym, subst, List, filter_map, IpAddr, Network, IpNetwork, as_v4, as_v6, IsLeastList, HasCount, InBoth, InFirstAlone, InComplement, InEither, IsWithin, AreDisjoint, v4_then_v6, IsIpLeastList, InIpBoth, InIpFirstAlone, InIpComplement, InIpEither, IsIpWithin, AreIpDisjoint, through}
 use Rattle.ipnetwork_addr.specs.declared.ip.IpAddr.TheVariants as addresses
-use Rattle.ipnetwork_family.specs.Network.{Network}
-use Rattle.ipnetwork.specs.declared.ip_network.IpNetwork.{IpNetwork}
-use Rattle.ipnetwork_blocks.specs.AggregateIp.{as_v4, as_v6}
-use Rattle.ipnetwork_blocks.specs.LeastList.{IsLeastList}
-use Rattle.ipnetwork_sets.specs.Counts.{HasCount}
-use Rattle.ipnetwork_sets.specs.Sets.{InBoth, InFirstAlone, InComplement, InEither, IsWithin, AreDisjoint}
-use Rattle.ipnetwork_sets.specs.IpSets.{v4_then_v6, IsIpLeastList, InIpBoth, InIpFirstAlone, InIpComplement, InIpEither, IsIpWithin, AreIpDisjoint}
-use Rattle.ipnetwork_blocks.proofs.Families.{through}
 use Rattle.ipnetwork_sets.proofs.IpFamilies.{in_v4, in_v6, put_together, v4_part, v6_part}
 
 -- ---- facts that hold together
@@ -33,7 +23,8 @@ not_iff p = ((λ n q. n (p.1 q)), (λ n q. n (p.0 q)))
 -- ---- the operations
 
 -- an operation on two sets of one family, and the same on sets of either family
-pub record IsOperation (F : ℕ → List Network → List Network → ℕ → Type 0) (G : List IpNetwork → List IpNetwork → IpAddr → Type 0) : Type 0 where
+pub record IsOperation (F : ℕ → List Network → List Network → ℕ → Type 0) (G : List IpNetwork → List IpNetwork → IpAddr
+    → Type 0) : Type 0 where
   pub v4 : (a b : List IpNetwork) (x : ℕ) → F 32 (filter_map as_v4 a) (filter_map as_v4 b) x ↔ G a b (addresses.V4 x)
   pub v6 : (a b : List IpNetwork) (x : ℕ) → F 128 (filter_map as_v6 a) (filter_map as_v6 b) x ↔ G a b (addresses.V6 x)
 
@@ -41,7 +32,8 @@ pub both : IsOperation InBoth InIpBoth
 both = record { v4 = λ a b x. and_iff (in_v4 a x) (in_v4 b x); v6 = λ a b x. and_iff (in_v6 a x) (in_v6 b x) }
 
 pub alone : IsOperation InFirstAlone InIpFirstAlone
-alone = record { v4 = λ a b x. and_iff (in_v4 a x) (not_iff (in_v4 b x)); v6 = λ a b x. and_iff (in_v6 a x) (not_iff (in_v6 b x)) }
+alone = record
+    { v4 = λ a b x. and_iff (in_v4 a x) (not_iff (in_v4 b x)); v6 = λ a b x. and_iff (in_v6 a x) (not_iff (in_v6 b x)) }
 
 pub rest : IsOperation (λ w a _. InComplement w a) (λ a _. InIpComplement a)
 rest = record { v4 = λ a b x. and_iff same (not_iff (in_v4 a x)); v6 = λ a b x. and_iff same (not_iff (in_v6 a x)) }
@@ -49,19 +41,23 @@ rest = record { v4 = λ a b x. and_iff same (not_iff (in_v4 a x)); v6 = λ a b x
 pub either : IsOperation InEither InIpEither
 either = record { v4 = λ a b x. or_iff (in_v4 a x) (in_v4 b x); v6 = λ a b x. or_iff (in_v6 a x) (in_v6 b x) }
 
-module _ {F : ℕ → List Network → List Network → ℕ → Type 0} {G : List IpNetwork → List IpNetwork → IpAddr → Type 0} (op : IsOperation F G) where
+module _ {F : ℕ → List Network → List Network → ℕ → Type 0} {G : List IpNetwork → List IpNetwork → IpAddr → Type 0}
+    (op : IsOperation F G) where
   -- the result of an operation is its results for each family, put together
   pub least_of_families : (a b : List IpNetwork) (a4 b4 a6 b6 r4 r6 : List Network) (r : List IpNetwork)
       → a4 ≡ filter_map as_v4 a → b4 ≡ filter_map as_v4 b → a6 ≡ filter_map as_v6 a → b6 ≡ filter_map as_v6 b
-      → IsLeastList 32 (F 32 a4 b4) r4 → IsLeastList 128 (F 128 a6 b6) r6 → r ≡ v4_then_v6 r4 r6 → IsIpLeastList (G a b) r
+      → IsLeastList 32 (F 32 a4 b4) r4 → IsLeastList 128 (F 128 a6 b6) r6 → r ≡ v4_then_v6 r4 r6
+      → IsIpLeastList (G a b) r
   least_of_families a b a4 b4 a6 b6 r4 r6 r ea4 eb4 ea6 eb6 h k e =
       subst (IsIpLeastList (G a b)) (sym e)
-      (put_together (G a b) (F 32 (filter_map as_v4 a) (filter_map as_v4 b)) (F 128 (filter_map as_v6 a) (filter_map as_v6 b)) r4 r6 (op.v4 a b) (op.v6 a b)
+      (put_together (G a b) (F 32 (filter_map as_v4 a) (filter_map as_v4 b))
+      (F 128 (filter_map as_v6 a) (filter_map as_v6 b)) r4 r6 (op.v4 a b) (op.v6 a b)
       (rw (ea4, eb4) at h) (rw (ea6, eb6) at k))
 
   -- the blocks of each family in the result of an operation are the result for that family
   pub parts : (a b r : List IpNetwork) → IsIpLeastList (G a b) r
-      → IsLeastList 32 (F 32 (filter_map as_v4 a) (filter_map as_v4 b)) (filter_map as_v4 r) × IsLeastList 128 (F 128 (filter_map as_v6 a) (filter_map as_v6 b)) (filter_map as_v6 r)
+      → IsLeastList 32 (F 32 (filter_map as_v4 a) (filter_map as_v4 b)) (filter_map as_v4 r)
+      × IsLeastList 128 (F 128 (filter_map as_v6 a) (filter_map as_v6 b)) (filter_map as_v6 r)
   parts a b r h = (
     v4_part (G a b) (F 32 (filter_map as_v4 a) (filter_map as_v4 b)) r (op.v4 a b) h,
     v6_part (G a b) (F 128 (filter_map as_v6 a) (filter_map as_v6 b)) r (op.v6 a b) h,
@@ -70,16 +66,23 @@ module _ {F : ℕ → List Network → List Network → ℕ → Type 0} {G : Lis
 -- ---- queries on two sets
 
 -- a query on two sets of either family holds exactly if it holds for each family
-pub record IsQuestion (F : ℕ → List Network → List Network → Type 0) (Q : List IpNetwork → List IpNetwork → Type 0) : Type 0 where
-  pub by_family : (a b : List IpNetwork) → (F 32 (filter_map as_v4 a) (filter_map as_v4 b) × F 128 (filter_map as_v6 a) (filter_map as_v6 b)) ↔ Q a b
+pub record IsQuestion (F : ℕ → List Network → List Network → Type 0) (Q : List IpNetwork → List IpNetwork
+    → Type 0) : Type 0 where
+  pub by_family : (a b : List IpNetwork)
+      → (F 32 (filter_map as_v4 a) (filter_map as_v4 b) × F 128 (filter_map as_v6 a) (filter_map as_v6 b)) ↔ Q a b
 
-within_by_family : (a b : List IpNetwork) → (IsWithin 32 (filter_map as_v4 a) (filter_map as_v4 b) × IsWithin 128 (filter_map as_v6 a) (filter_map as_v6 b)) ↔ IsIpWithin a b
+within_by_family : (a b : List IpNetwork) → (IsWithin 32 (filter_map as_v4 a) (filter_map as_v4 b)
+    × IsWithin 128 (filter_map as_v6 a) (filter_map as_v6 b)) ↔ IsIpWithin a b
 within_by_family a b = (
   (λ h. go h.0 h.1),
-  (λ h. ((λ x c. (in_v4 b x).1 (h (addresses.V4 x) ((in_v4 a x).0 c))), (λ x c. (in_v6 b x).1 (h (addresses.V6 x) ((in_v6 a x).0 c))))),
+  (λ h. (
+    (λ x c. (in_v4 b x).1 (h (addresses.V4 x) ((in_v4 a x).0 c))),
+    (λ x c. (in_v6 b x).1 (h (addresses.V6 x) ((in_v6 a x).0 c))),
+  )),
 )
   where
-    go : IsWithin 32 (filter_map as_v4 a) (filter_map as_v4 b) → IsWithin 128 (filter_map as_v6 a) (filter_map as_v6 b) → IsIpWithin a b
+    go : IsWithin 32 (filter_map as_v4 a) (filter_map as_v4 b) → IsWithin 128 (filter_map as_v6 a) (filter_map as_v6 b)
+        → IsIpWithin a b
     go h k (addresses.V4 x) c = (in_v4 b x).0 (h x ((in_v4 a x).1 c))
     go h k (addresses.V6 x) c = (in_v6 b x).0 (k x ((in_v6 a x).1 c))
 
@@ -87,13 +90,15 @@ pub within : IsQuestion IsWithin IsIpWithin
 within = record { by_family = within_by_family }
 
 disjoint_by_family : (a b : List IpNetwork)
-    → (AreDisjoint 32 (filter_map as_v4 a) (filter_map as_v4 b) × AreDisjoint 128 (filter_map as_v6 a) (filter_map as_v6 b)) ↔ AreIpDisjoint a b
+    → (AreDisjoint 32 (filter_map as_v4 a) (filter_map as_v4 b)
+    × AreDisjoint 128 (filter_map as_v6 a) (filter_map as_v6 b)) ↔ AreIpDisjoint a b
 disjoint_by_family a b = (
   (λ h. go h.0 h.1),
   (λ h. ((λ x c. h (addresses.V4 x) ((both.v4 a b x).0 c)), (λ x c. h (addresses.V6 x) ((both.v6 a b x).0 c)))),
 )
   where
-    go : AreDisjoint 32 (filter_map as_v4 a) (filter_map as_v4 b) → AreDisjoint 128 (filter_map as_v6 a) (filter_map as_v6 b) → AreIpDisjoint a b
+    go : AreDisjoint 32 (filter_map as_v4 a) (filter_map as_v4 b)
+        → AreDisjoint 128 (filter_map as_v6 a) (filter_map as_v6 b) → AreIpDisjoint a b
     go h k (addresses.V4 x) c = h x ((both.v4 a b x).1 c)
     go h k (addresses.V6 x) c = k x ((both.v6 a b x).1 c)
 

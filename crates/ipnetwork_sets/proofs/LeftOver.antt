@@ -1,24 +1,12 @@
 -- Removing a network from a set: what is left of the first block that shares an address with it, between the blocks
 -- before and after.
-use Rattle.std.proofs.Common.{◌≡◌, ℕ, ◌-◌, ◌<◌, ◌≤◌, ◌⊎◌, inl, inr, sym, ap, subst, ◌∙◌, arith, ⊎_elim, List, [], ◌∷◌, ◌++◌, length, get_or, take, drop, append_assoc}
-use Rattle.std.proofs.lemmas.Bool.{cases_lt, cases_order}
-use Rattle.std.proofs.lemmas.List.{get_or_default}
-use Rattle.std.specs.List.{Contains}
-use Rattle.ipnetwork_family.specs.Network.{Network, IsNetwork, IsCidrBlock, Member, Subnet, Overlap, low, high}
-use Rattle.ipnetwork_family.proofs.Blocks.{nested, subnet_prefix}
-use Rattle.ipnetwork_blocks.specs.Exclusion.{InDifference}
-use Rattle.ipnetwork_blocks.specs.LeastList.{LiesIn, IsLeastList}
-use Rattle.ipnetwork_blocks.specs.Aggregate.{InUnion}
-use Rattle.ipnetwork_blocks.specs.AggregateLaws.{AggregateIsApart, AggregateHasNetworks}
-use Rattle.ipnetwork_blocks.proofs.AggregateFront.{joined_take}
-use Rattle.ipnetwork_blocks.proofs.LeastLists.{own_address, least_of_two}
-use Rattle.ipnetwork_sets.specs.Sets.{IsAddressSet, MeetsUnion, InFirstAlone}
-use Rattle.ipnetwork_sets.specs.Private.Places.{IsPlace}
+use Rattle.ipnetwork_sets.proofs.Words.{◌≡◌, ℕ, ◌-◌, ◌<◌, ◌≤◌, ◌⊎◌, inl, inr, sym, ap, subst, ◌∙◌, arith, ⊎_elim, List, [], ◌∷◌, ◌++◌, length, get_or, take, drop, append_assoc, cases_lt, cases_order, get_or_default, Contains, Network, IsNetwork, IsCidrBlock, Member, Subnet, Overlap, low, high, nested, subnet_prefix, InDifference, LiesIn, IsLeastList, InUnion, AggregateIsApart, AggregateHasNetworks, joined_take, own_address, least_of_two, IsAddressSet, MeetsUnion, InFirstAlone, IsPlace}
 use Rattle.ipnetwork_sets.proofs.JoinedAround.{contains_front, contains_back, at_front, at_back, union_of_one_network, joined_drop}
 use Rattle.ipnetwork_sets.proofs.Lists.{set_is_joined, joined_is_set}
 use Rattle.ipnetwork_sets.proofs.Placed.{block_of_set, begins_before_end, member_ends}
 
-module _ (w : ℕ) (bs : List Network) (n : Network) (from to : ℕ) (law : AggregateIsApart) (h : IsAddressSet w bs) (nn : IsNetwork w n) (place : IsPlace w bs n from to) where
+module _ (w : ℕ) (bs : List Network) (n : Network) (from to : ℕ) (law : AggregateIsApart) (h : IsAddressSet w bs)
+    (nn : IsNetwork w n) (place : IsPlace w bs n from to) where
   abbrev Here : ℕ → Network → Network
   Here k d = get_or bs k d
 
@@ -34,8 +22,10 @@ module _ (w : ℕ) (bs : List Network) (n : Network) (from to : ℕ) (law : Aggr
       let f : high w c.0 < low w n = subst (λ (t : Network). high w t < low w n) held (place.before c.1.0 c.0 l) in
       omega (arith, f, i.0, j.1))
       (λ (le : from ≤ c.1.0).
-      let f : high w n < c.0.address = subst (λ (t : Network). high w n < t.address) held (place.behind c.1.0 c.0 (omega arith) c.1.1) in
-      let hc : IsCidrBlock w c.0 = subst (λ (t : Network). IsCidrBlock w t) held (block_of_set w bs c.1.0 c.0 h c.1.1) in
+      let f : high w n < c.0.address =
+      subst (λ (t : Network). high w n < t.address) held (place.behind c.1.0 c.0 (omega arith) c.1.1) in
+      let hc : IsCidrBlock w c.0 = subst (λ (t : Network). IsCidrBlock w t) held
+      (block_of_set w bs c.1.0 c.0 h c.1.1) in
       let block = hc.block in
       omega (arith, f, i.1, j.0, block))
       (cases_lt c.1.0 from)
@@ -43,11 +33,13 @@ module _ (w : ℕ) (bs : List Network) (n : Network) (from to : ℕ) (law : Aggr
   pub meets_some : (b : Network) → from < to → b ≡ get_or bs from b → MeetsUnion w n bs
   meets_some b some is =
       let within = place.within in
-      let o : Overlap w b n = subst (λ (t : Network). Overlap w t n) (sym is) (place.shared from b (omega arith) some) in
+      let o : Overlap w b n = subst (λ (t : Network). Overlap w t n) (sym is)
+      (place.shared from b (omega arith) some) in
       (o.0, o.2, (b, (from, omega arith, sym is), o.1))
 
   -- `whole` is the first of the blocks that share an address with the network, and `left` are the blocks left of it
-  module _ (whole : Network) (left : List Network) (networks : AggregateHasNetworks) (some : from < to) (is : whole ≡ get_or bs from whole)
+  module _ (whole : Network) (left : List Network) (networks : AggregateHasNetworks) (some : from < to)
+      (is : whole ≡ get_or bs from whole)
       (rest : IsLeastList w (InDifference w whole n) left) where
     -- the addresses left: those of the blocks before, those left of the whole, and those of the blocks after
     abbrev Front : ℕ → Type 0
@@ -72,11 +64,13 @@ module _ (w : ℕ) (bs : List Network) (n : Network) (from to : ℕ) (law : Aggr
     whole_is_block = subst (λ (t : Network). IsCidrBlock w t) (sym is) (block_of_set w bs from whole h fits)
 
     -- one block is left for each bit by which the network's prefix length is longer
-    pub left_length : (Subnet w whole n → left ≡ []) → (Subnet w n whole → length left ≡ n.prefix - whole.prefix) → length left ≡ n.prefix - whole.prefix
+    pub left_length : (Subnet w whole n → left ≡ []) → (Subnet w n whole → length left ≡ n.prefix - whole.prefix)
+        → length left ≡ n.prefix - whole.prefix
     left_length none longer =
         let hw = whole_is_block in
         let within = place.within in
-        let o : Overlap w whole n = subst (λ (t : Network). Overlap w t n) (sym is) (place.shared from whole (omega arith) some) in
+        let o : Overlap w whole n = subst (λ (t : Network). Overlap w t n) (sym is)
+        (place.shared from whole (omega arith) some) in
         ⊎_elim
         (λ (s : Subnet w whole n).
         let e : length left ≡ 0 = ap length (none s) in
@@ -93,7 +87,8 @@ module _ (w : ℕ) (bs : List Network) (n : Network) (from to : ℕ) (law : Aggr
         let hc : IsCidrBlock w c = subst (λ (t : Network). IsCidrBlock w t) held (block_of_set w bs k c h l) in
         let o : Overlap w c n = subst (λ (t : Network). Overlap w t n) held (place.shared k c (omega arith) less) in
         let p : Overlap w (Here from c) n = place.shared from c (omega arith) some in
-        let apart : high w (Here from c) < c.address = subst (λ (t : Network). high w (Here from c) < t.address) held (law w bs bs h from k c more l) in
+        let apart : high w (Here from c) < c.address = subst (λ (t : Network). high w (Here from c) < t.address) held
+        (law w bs bs h from k c more l) in
         let block = hc.block in
         ⊎_elim
         (λ (s : Subnet w c n). s)
@@ -130,7 +125,8 @@ module _ (w : ℕ) (bs : List Network) (n : Network) (from to : ℕ) (law : Aggr
         let f : high w c.0 < low w n = subst (λ (t : Network). high w t < low w n) p.3 (place.before p.0 c.0 p.1) in
         let e : high w (Here p.0 c.0) < (Here from c.0).address = law w bs bs h p.0 from c.0 p.1 fits in
         let same : Here from c.0 ≡ whole = get_or_default bs from c.0 whole fits ∙ sym is in
-        let g : high w c.0 < whole.address = subst (λ (t : Network). high w c.0 < t.address) same (subst (λ (t : Network). high w t < (Here from c.0).address) p.3 e) in
+        let g : high w c.0 < whole.address = subst (λ (t : Network). high w c.0 < t.address) same
+        (subst (λ (t : Network). high w t < (Here from c.0).address) p.3 e) in
         (omega (arith, i.1, f), omega (arith, i.1, g))
 
     -- the addresses of the back come after the network and after the whole
@@ -141,10 +137,12 @@ module _ (w : ℕ) (bs : List Network) (n : Network) (from to : ℕ) (law : Aggr
         let hc : IsCidrBlock w c.0 = subst (λ (t : Network). IsCidrBlock w t) p.3 (block_of_set w bs p.0 c.0 h p.2) in
         let block = hc.block in
         let le = p.1 in
-        let f : high w n < c.0.address = subst (λ (t : Network). high w n < t.address) p.3 (place.behind p.0 c.0 p.1 p.2) in
+        let f : high w n < c.0.address =
+        subst (λ (t : Network). high w n < t.address) p.3 (place.behind p.0 c.0 p.1 p.2) in
         let e : high w (Here from c.0) < (Here p.0 c.0).address = law w bs bs h from p.0 c.0 (omega arith) p.2 in
         let same : Here from c.0 ≡ whole = get_or_default bs from c.0 whole fits ∙ sym is in
-        let g : high w whole < c.0.address = subst (λ (t : Network). high w t < c.0.address) same (subst (λ (t : Network). high w (Here from c.0) < t.address) p.3 e) in
+        let g : high w whole < c.0.address = subst (λ (t : Network). high w t < c.0.address) same
+        (subst (λ (t : Network). high w (Here from c.0) < t.address) p.3 e) in
         (omega (arith, i.0, block, f), omega (arith, i.0, block, g))
 
     not_of : (x : ℕ) → ¬ (Member w n x) → ¬ (InUnion w (n ∷ []) x)
@@ -211,7 +209,8 @@ module _ (w : ℕ) (bs : List Network) (n : Network) (from to : ℕ) (law : Aggr
         (λ (q : Subnet w c n ⊎ Contains (drop to bs) c). ⊎_elim
         (λ (s : Subnet w c n).
         let own = own_address w m mm in
-        let r : LiesIn w Middle m ⊎ LiesIn w Back m = absurd (not_in m.address (lies m.address own) (s m.address (sub m.address own))) in
+        let r : LiesIn w Middle m ⊎ LiesIn w Back m =
+        absurd (not_in m.address (lies m.address own) (s m.address (sub m.address own))) in
         r)
         (λ (k : Contains (drop to bs) c). inr (λ x i. (c, k, sub x i))) q) p))
         (stands c o.1)

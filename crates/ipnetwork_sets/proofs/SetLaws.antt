@@ -1,18 +1,5 @@
 -- The laws of the operations on sets.
-use Rattle.std.proofs.Common.{◌≡◌, ◌↔◌, ℕ, ◌^◌, ◌<◌, ◌≤◌, ◌⊎◌, inl, inr, sym, refl, subst, ⊎_elim, List, [], ◌∷◌, Bool, true, false, not, IsTrue, is_some, MatchOption, Option, None, Some, arith, true≢false}
-use Rattle.std.proofs.lemmas.Bool.{cases_lt}
-use Rattle.std.specs.List.{Contains}
-use Rattle.ipnetwork_family.specs.Network.{Network, Member}
-use Rattle.ipnetwork_blocks.specs.Aggregate.{InUnion}
-use Rattle.ipnetwork_blocks.specs.LeastList.{IsMaximalIn, IsLeastList}
-use Rattle.ipnetwork_blocks.specs.LeastListLaws.{IsShortest}
-use Rattle.ipnetwork_blocks.proofs.LeastLists.{own_address, contains_head, least_of_same}
-use Rattle.ipnetwork_blocks.proofs.MaximalBlocks.{is_shortest, member_or_not}
-use Rattle.ipnetwork_sets.specs.Laws.{CommonPartIsShortest, DifferenceIsShortest, FreePartIsShortest, ComplementIsShortest, UnionIsShortest, SameAddressesAreOneSet, CommonPartCommutes, UnionCommutes, CommonPartOfOne, UnionOfOne, DifferenceIsDisjoint, PartsMakeTheWhole, FreeOfUnion, FreeOfCommonPart}
-use Rattle.ipnetwork_sets.specs.Sets.{IsAddressSet, InBoth, InFirstAlone, InEither, IsWithin, AreDisjoint}
-use Rattle.ipnetwork_sets.specs.Private.LeastBlocks.{in_union, common_blocks, either_blocks, left_blocks}
-use Rattle.ipnetwork_sets.specs.Private.Remainder.{InLeft}
-use Rattle.ipnetwork_sets.proofs.Steps.{same_list}
+use Rattle.ipnetwork_sets.proofs.Words.{◌≡◌, ◌↔◌, ℕ, ◌^◌, ◌<◌, ◌⊎◌, inl, inr, sym, refl, subst, ⊎_elim, List, [], ◌∷◌, Bool, true, false, not, IsTrue, is_some, MatchOption, Option, None, Some, true≢false, Contains, Network, Member, InUnion, IsMaximalIn, IsLeastList, IsShortest, own_address, contains_head, least_of_same, is_shortest, member_or_not, CommonPartIsShortest, DifferenceIsShortest, FreePartIsShortest, UnionIsShortest, IsAddressSet, InBoth, InFirstAlone, InEither, IsWithin, AreDisjoint, in_union, common_blocks, either_blocks, left_blocks, InLeft, arith}
 use Rattle.ipnetwork_sets.proofs.LeastBlocks.{union_told, common_is_least, either_is_least, left_is_least, left_or_not, left_fits}
 
 -- ---- an address is in a union, or not
@@ -34,7 +21,8 @@ either_or_not : (P Q : Type 0) → P ⊎ ¬ P → Q ⊎ ¬ Q → (P ⊎ Q) ⊎ �
 either_or_not P Q p q =
     ⊎_elim
     (λ (h : P). inl (inl h))
-    (λ (h : ¬ P). ⊎_elim (λ (k : Q). inl (inr k)) (λ (k : ¬ Q). inr (λ o. ⊎_elim (λ (m : P). h m) (λ (m : Q). k m) o)) q) p
+    (λ (h : ¬ P). ⊎_elim (λ (k : Q). inl (inr k)) (λ (k : ¬ Q). inr (λ o. ⊎_elim (λ (m : P). h m) (λ (m : Q). k m) o))
+    q) p
 
 no_or_not : (P : Type 0) → P ⊎ ¬ P → (¬ P) ⊎ ¬ (¬ P)
 no_or_not P p = ⊎_elim (λ (h : P). inr (λ n. n h)) (λ (h : ¬ P). inl h) p
@@ -43,13 +31,16 @@ no_or_not P p = ⊎_elim (λ (h : P). inr (λ n. n h)) (λ (h : ¬ P). inl h) p
 
 pub common_is_shortest : CommonPartIsShortest
 common_is_shortest w a b r h =
-    is_shortest w (InBoth w a b) r (λ x. both_or_not (InUnion w a x) (InUnion w b x) (union_or_not w a x) (union_or_not w b x)) (λ x s. s.0.2.0) h
+    is_shortest w (InBoth w a b) r
+    (λ x. both_or_not (InUnion w a x) (InUnion w b x) (union_or_not w a x) (union_or_not w b x)) (λ x s. s.0.2.0) h
 
 -- a set of which each address is or is not a member, minus the addresses of a list
 module _ (w : ℕ) (P : ℕ → Type 0) (test : (x : ℕ) → P x ⊎ ¬ (P x)) (fits : (x : ℕ) → P x → x < 2 ^ w) where
-  rest_is_shortest : (a r : List Network) → IsLeastList w (λ x. P x × ¬ (InUnion w a x)) r → IsShortest w (λ x. P x × ¬ (InUnion w a x)) r
+  rest_is_shortest : (a r : List Network) → IsLeastList w (λ x. P x × ¬ (InUnion w a x)) r
+      → IsShortest w (λ x. P x × ¬ (InUnion w a x)) r
   rest_is_shortest a r h =
-      is_shortest w (λ x. P x × ¬ (InUnion w a x)) r (λ x. both_or_not (P x) (¬ (InUnion w a x)) (test x) (no_or_not (InUnion w a x) (union_or_not w a x))) (λ x s. fits x s.0) h
+      is_shortest w (λ x. P x × ¬ (InUnion w a x)) r (λ x. both_or_not (P x) (¬ (InUnion w a x)) (test x)
+      (no_or_not (InUnion w a x) (union_or_not w a x))) (λ x s. fits x s.0) h
 
 pub difference_is_shortest : DifferenceIsShortest
 difference_is_shortest w a b r h = rest_is_shortest w (InUnion w a) (union_or_not w a) (λ x c. c.2.0) b r h
@@ -57,98 +48,11 @@ difference_is_shortest w a b r h = rest_is_shortest w (InUnion w a) (union_or_no
 pub free_is_shortest : FreePartIsShortest
 free_is_shortest w n a r h = rest_is_shortest w (Member w n) (member_or_not w n) (λ x m. m.0) a r h
 
-below_or_not : (x n : ℕ) → (x < n) ⊎ ¬ (x < n)
-below_or_not x n = ⊎_elim (λ (l : x < n). inl l) (λ (le : n ≤ x). inr (λ l. omega (arith, l, le))) (cases_lt x n)
-
-pub complement_is_shortest : ComplementIsShortest
-complement_is_shortest w a r h = rest_is_shortest w (λ x. x < 2 ^ w) (λ x. below_or_not x (2 ^ w)) (λ x l. l) a r h
-
 pub union_is_shortest : UnionIsShortest
 union_is_shortest w a b r h =
-    is_shortest w (InEither w a b) r (λ x. either_or_not (InUnion w a x) (InUnion w b x) (union_or_not w a x) (union_or_not w b x))
+    is_shortest w (InEither w a b) r
+    (λ x. either_or_not (InUnion w a x) (InUnion w b x) (union_or_not w a x) (union_or_not w b x))
     (λ x s. ⊎_elim (λ (c : InUnion w a x). c.2.0) (λ (c : InUnion w b x). c.2.0) s) h
-
--- ---- equal sets
-
-pub same_addresses_are_one_set : SameAddressesAreOneSet
-same_addresses_are_one_set w a b h k = (
-  (λ e x. ((λ c. subst (λ (l : List Network). InUnion w l x) e c), (λ c. subst (λ (l : List Network). InUnion w l x) (sym e) c))),
-  (λ same. same_list w (InUnion w a) (InUnion w b) a b h k same),
-)
-
-pub common_commutes : CommonPartCommutes
-common_commutes w a b r s h k = same_list w (InBoth w a b) (InBoth w b a) r s h k (λ x. ((λ p. (p.1, p.0)), (λ p. (p.1, p.0))))
-
-pub union_commutes : UnionCommutes
-union_commutes w a b r s h k =
-    same_list w (InEither w a b) (InEither w b a) r s h k
-    (λ x. (
-      (λ p. ⊎_elim (λ (c : InUnion w a x). inr c) (λ (c : InUnion w b x). inl c) p),
-      (λ p. ⊎_elim (λ (c : InUnion w b x). inr c) (λ (c : InUnion w a x). inl c) p),
-    ))
-
-pub common_of_one : CommonPartOfOne
-common_of_one w a r h k = same_list w (InBoth w a a) (InUnion w a) r a k h (λ x. ((λ p. p.0), (λ c. (c, c))))
-
-pub union_of_one : UnionOfOne
-union_of_one w a r h k = same_list w (InEither w a a) (InUnion w a) r a k h (λ x. ((λ p. ⊎_elim (λ (c : InUnion w a x). c) (λ (c : InUnion w a x). c) p), (λ c. inl c)))
-
--- ---- a difference and the intersection
-
-pub difference_is_disjoint : DifferenceIsDisjoint
-difference_is_disjoint w a b r h x s = (((difference_is_shortest w a b r h).addresses x).0 s.0).1 s.1
-
-pub parts_make_the_whole : PartsMakeTheWhole
-parts_make_the_whole w a b c d r h hc hd k =
-    let in_c = (common_is_shortest w a b c hc).addresses in
-    let in_d = (difference_is_shortest w a b d hd).addresses in
-    same_list w (InEither w c d) (InUnion w a) r a k h
-    (λ x. (
-      (λ p. ⊎_elim (λ (m : InUnion w c x). ((in_c x).0 m).0) (λ (m : InUnion w d x). ((in_d x).0 m).0) p),
-      (λ m. ⊎_elim (λ (n : InUnion w b x). inl ((in_c x).1 (m, n))) (λ (n : ¬ (InUnion w b x)). inr ((in_d x).1 (m, n))) (union_or_not w b x)),
-    ))
-
--- ---- De Morgan's laws
-
-module _ (w : ℕ) (P : ℕ → Type 0) (test : (x : ℕ) → P x ⊎ ¬ (P x)) (fits : (x : ℕ) → P x → x < 2 ^ w) (a b both out out_a out_b r : List Network)
-    (h : IsLeastList w (λ x. P x × ¬ (InUnion w both x)) out) (ha : IsLeastList w (λ x. P x × ¬ (InUnion w a x)) out_a) (hb : IsLeastList w (λ x. P x × ¬ (InUnion w b x)) out_b) where
-  in_a : (x : ℕ) → InUnion w out_a x ↔ (P x × ¬ (InUnion w a x))
-  in_a = (rest_is_shortest w P test fits a out_a ha).addresses
-
-  in_b : (x : ℕ) → InUnion w out_b x ↔ (P x × ¬ (InUnion w b x))
-  in_b = (rest_is_shortest w P test fits b out_b hb).addresses
-
-  -- of any addresses, those outside a union are those outside both sets
-  pub outside_union : IsLeastList w (InEither w a b) both → IsLeastList w (InBoth w out_a out_b) r → out ≡ r
-  outside_union hu k =
-      let in_u = (union_is_shortest w a b both hu).addresses in
-      same_list w (λ x. P x × ¬ (InUnion w both x)) (InBoth w out_a out_b) out r h k
-      (λ x. (
-        (λ p. ((in_a x).1 (p.0, λ m. p.1 ((in_u x).1 (inl m))), (in_b x).1 (p.0, λ m. p.1 ((in_u x).1 (inr m))))),
-        (λ p. (((in_a x).0 p.0).0, λ m. ⊎_elim (λ (c : InUnion w a x). ((in_a x).0 p.0).1 c) (λ (c : InUnion w b x). ((in_b x).0 p.1).1 c) ((in_u x).0 m))),
-      ))
-
-  -- of any addresses, those outside an intersection are those outside at least one of the sets
-  pub outside_common : IsLeastList w (InBoth w a b) both → IsLeastList w (InEither w out_a out_b) r → out ≡ r
-  outside_common hc k =
-      let in_c = (common_is_shortest w a b both hc).addresses in
-      same_list w (λ x. P x × ¬ (InUnion w both x)) (InEither w out_a out_b) out r h k
-      (λ x. (
-        (λ p. ⊎_elim
-            (λ (m : InUnion w a x). inr ((in_b x).1 (p.0, λ o. p.1 ((in_c x).1 (m, o)))))
-            (λ (m : ¬ (InUnion w a x)). inl ((in_a x).1 (p.0, m)))
-            (union_or_not w a x)),
-        (λ p. ⊎_elim
-            (λ (m : InUnion w out_a x). let q = (in_a x).0 m in (q.0, λ o. q.1 ((in_c x).0 o).0))
-            (λ (m : InUnion w out_b x). let q = (in_b x).0 m in (q.0, λ o. q.1 ((in_c x).0 o).1))
-            p),
-      ))
-
-pub free_of_union : FreeOfUnion
-free_of_union w n a b u f fa fb r hu hf ha hb k = outside_union w (Member w n) (member_or_not w n) (λ x m. m.0) a b u f fa fb r hf ha hb hu k
-
-pub free_of_common : FreeOfCommonPart
-free_of_common w n a b c f fa fb r hc hf ha hb k = outside_common w (Member w n) (member_or_not w n) (λ x m. m.0) a b c f fa fb r hf ha hb hc k
 
 -- ---- queries on two sets
 
@@ -162,43 +66,58 @@ nothing_in w S r h e x s =
     none_in_nil w x c = let l = c.1.1 in omega arith
 
 -- a list with a block is that of a set with an address
-pub something_in : (w : ℕ) (S : ℕ → Type 0) (r : List Network) (b : Network) (s : List Network) → IsLeastList w S r → r ≡ b ∷ s → S b.address
+pub something_in : (w : ℕ) (S : ℕ → Type 0) (r : List Network) (b : Network) (s : List Network) → IsLeastList w S r
+    → r ≡ b ∷ s → S b.address
 something_in w S r b s h e =
-    let m : IsMaximalIn w S b = (h.maximal b).0 (subst (λ (l : List Network). Contains l b) (sym e) (contains_head b s)) in
+    let m : IsMaximalIn w S b = (h.maximal b).0 (subst (λ (l : List Network). Contains l b) (sym e) (contains_head b s))
+    in
     m.lies b.address (own_address w b m.network)
 
 pub within_if_none : (w : ℕ) (a b r : List Network) → IsLeastList w (InFirstAlone w a b) r → r ≡ [] → IsWithin w a b
 within_if_none w a b r h e x c =
     ⊎_elim (λ (m : InUnion w b x). m)
-    (λ (m : ¬ (InUnion w b x)). absurd (nothing_in w (InFirstAlone w a b) r (difference_is_shortest w a b r h) e x (c, m))) (union_or_not w b x)
+    (λ (m : ¬ (InUnion w b x)). absurd
+    (nothing_in w (InFirstAlone w a b) r (difference_is_shortest w a b r h) e x (c, m))) (union_or_not w b x)
 
-pub not_within_if_some : (w : ℕ) (a b r : List Network) (n : Network) (s : List Network) → IsLeastList w (InFirstAlone w a b) r → r ≡ n ∷ s → ¬ (IsWithin w a b)
-not_within_if_some w a b r n s h e within = let p = something_in w (InFirstAlone w a b) r n s h e in p.1 (within n.address p.0)
+pub not_within_if_some : (w : ℕ) (a b r : List Network) (n : Network) (s : List Network)
+    → IsLeastList w (InFirstAlone w a b) r → r ≡ n ∷ s → ¬ (IsWithin w a b)
+not_within_if_some w a b r n s h e within = let p = something_in w (InFirstAlone w a b) r n s h e in
+    p.1 (within n.address p.0)
 
 pub disjoint_if_none : (w : ℕ) (a b r : List Network) → IsLeastList w (InBoth w a b) r → r ≡ [] → AreDisjoint w a b
 disjoint_if_none w a b r h e = nothing_in w (InBoth w a b) r (common_is_shortest w a b r h) e
 
-pub not_disjoint_if_some : (w : ℕ) (a b r : List Network) (n : Network) (s : List Network) → IsLeastList w (InBoth w a b) r → r ≡ n ∷ s → ¬ (AreDisjoint w a b)
+pub not_disjoint_if_some : (w : ℕ) (a b r : List Network) (n : Network) (s : List Network)
+    → IsLeastList w (InBoth w a b) r → r ≡ n ∷ s → ¬ (AreDisjoint w a b)
 not_disjoint_if_some w a b r n s h e apart = apart n.address (something_in w (InBoth w a b) r n s h e)
 
 -- ---- the result of an iterator's first step
 
-step_answers : (P : Type 0) (r after : List Network) {X : Type 0} (pair : X → Network) (first : Option X) (answer : Bool) → (r ≡ [] → P)
-    → ((n : Network) → r ≡ n ∷ after → ¬ P) → MatchOption first ((r ≡ []) × (after ≡ [])) (λ x. r ≡ pair x ∷ after) → is_some first ≡ not answer → IsTrue answer ↔ P
+step_answers : (P : Type 0) (r after : List Network) {X : Type 0} (pair : X → Network) (first : Option X)
+    (answer : Bool) → (r ≡ [] → P)
+    → ((n : Network) → r ≡ n ∷ after → ¬ P) → MatchOption first ((r ≡ []) × (after ≡ [])) (λ x. r ≡ pair x ∷ after)
+    → is_some first ≡ not answer → IsTrue answer ↔ P
 step_answers P r after pair None true left taken m e = ((λ t. left m.0), (λ k. refl))
 step_answers P r after pair None false left taken m e = absurd (true≢false (sym e))
 step_answers P r after pair (Some x) true left taken m e = absurd (true≢false e)
-step_answers P r after pair (Some x) false left taken m e = ((λ t. absurd (true≢false (sym t))), (λ k. absurd (taken (pair x) m k)))
+step_answers P r after pair (Some x) false left taken m e =
+    ((λ t. absurd (true≢false (sym t))), (λ k. absurd (taken (pair x) m k)))
 
-pub within_answer : (w : ℕ) (a b r after : List Network) {X : Type 0} (pair : X → Network) (first : Option X) (answer : Bool) → IsLeastList w (InFirstAlone w a b) r
-    → MatchOption first ((r ≡ []) × (after ≡ [])) (λ x. r ≡ pair x ∷ after) → is_some first ≡ not answer → IsTrue answer ↔ IsWithin w a b
+pub within_answer : (w : ℕ) (a b r after : List Network) {X : Type 0} (pair : X → Network) (first : Option X)
+    (answer : Bool) → IsLeastList w (InFirstAlone w a b) r
+    → MatchOption first ((r ≡ []) × (after ≡ [])) (λ x. r ≡ pair x ∷ after) → is_some first ≡ not answer
+    → IsTrue answer ↔ IsWithin w a b
 within_answer w a b r after pair first answer h =
-    step_answers (IsWithin w a b) r after pair first answer (within_if_none w a b r h) (λ n. not_within_if_some w a b r n after h)
+    step_answers (IsWithin w a b) r after pair first answer (within_if_none w a b r h)
+    (λ n. not_within_if_some w a b r n after h)
 
-pub disjoint_answer : (w : ℕ) (a b r after : List Network) {X : Type 0} (pair : X → Network) (first : Option X) (answer : Bool) → IsLeastList w (InBoth w a b) r
-    → MatchOption first ((r ≡ []) × (after ≡ [])) (λ x. r ≡ pair x ∷ after) → is_some first ≡ not answer → IsTrue answer ↔ AreDisjoint w a b
+pub disjoint_answer : (w : ℕ) (a b r after : List Network) {X : Type 0} (pair : X → Network) (first : Option X)
+    (answer : Bool) → IsLeastList w (InBoth w a b) r
+    → MatchOption first ((r ≡ []) × (after ≡ [])) (λ x. r ≡ pair x ∷ after) → is_some first ≡ not answer
+    → IsTrue answer ↔ AreDisjoint w a b
 disjoint_answer w a b r after pair first answer h =
-    step_answers (AreDisjoint w a b) r after pair first answer (disjoint_if_none w a b r h) (λ n. not_disjoint_if_some w a b r n after h)
+    step_answers (AreDisjoint w a b) r after pair first answer (disjoint_if_none w a b r h)
+    (λ n. not_disjoint_if_some w a b r n after h)
 
 -- ---- the blocks of an iterator are those of a set
 
@@ -206,12 +125,15 @@ pub least_is_set : (w : ℕ) (S : ℕ → Type 0) (r : List Network) → IsLeast
 least_is_set w S r h k = least_of_same w S (InUnion w r) r (λ x. ((k.addresses x).1, (k.addresses x).0)) h
 
 pub common_is_set : (w : ℕ) (a b : List Network) → IsAddressSet w (common_blocks w a b)
-common_is_set w a b = least_is_set w (InBoth w a b) (common_blocks w a b) (common_is_least w a b) (common_is_shortest w a b (common_blocks w a b) (common_is_least w a b))
+common_is_set w a b = least_is_set w (InBoth w a b) (common_blocks w a b) (common_is_least w a b)
+    (common_is_shortest w a b (common_blocks w a b) (common_is_least w a b))
 
 pub either_is_set : (w : ℕ) (a b : List Network) → IsAddressSet w (either_blocks w a b)
-either_is_set w a b = least_is_set w (InEither w a b) (either_blocks w a b) (either_is_least w a b) (union_is_shortest w a b (either_blocks w a b) (either_is_least w a b))
+either_is_set w a b = least_is_set w (InEither w a b) (either_blocks w a b) (either_is_least w a b)
+    (union_is_shortest w a b (either_blocks w a b) (either_is_least w a b))
 
-pub left_is_set : (w : ℕ) (at_hand : Option (Network × Network)) (rest cut : List Network) → IsAddressSet w (left_blocks w at_hand rest cut)
+pub left_is_set : (w : ℕ) (at_hand : Option (Network × ℕ)) (rest cut : List Network)
+    → IsAddressSet w (left_blocks w at_hand rest cut)
 left_is_set w at_hand rest cut =
     least_is_set w (InLeft w at_hand rest cut) (left_blocks w at_hand rest cut) (left_is_least w at_hand rest cut)
     (is_shortest w (InLeft w at_hand rest cut) (left_blocks w at_hand rest cut)

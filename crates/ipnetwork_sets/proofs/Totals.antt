@@ -1,21 +1,5 @@
 -- The number of addresses that the blocks of a set have together.
-use Rattle.std.proofs.Common.{◌≡◌, ℕ, ◌+◌, ◌-◌, ◌^◌, ◌<◌, ◌≤◌, inl, inr, sym, refl, ap, subst, ◌∙◌, arith, ⊎_elim, List, [], ◌∷◌, ◌++◌, length, min}
-use Rattle.std.proofs.Math.Nat.{min-eq_left, min-eq_right}
-use Rattle.std.proofs.Math.Pow.{pow_mono}
-use Rattle.std.proofs.lemmas.Bool.{cases_lt}
-use Rattle.std.proofs.lemmas.List.{length-append}
-use Rattle.std.specs.List.{Contains}
-use Rattle.std.proofs.lemmas.List.Elements.{Contains-append_left, Contains-append_right, Contains-append_cases}
-use Rattle.std.proofs.lemmas.List.Kept.{AllPairs-from_increasing}
-use Rattle.ipnetwork_family.specs.Network.{Network, IsCidrBlock, Member, block_size, low, members}
-use Rattle.ipnetwork_family.proofs.Blocks.{size_pos, high_fits, within_member}
-use Rattle.ipnetwork_family.proofs.Members.{lists_members, length-count_up}
-use Rattle.ipnetwork_blocks.specs.Aggregate.{InUnion}
-use Rattle.ipnetwork_blocks.specs.AggregateLaws.{AggregateIsApart}
-use Rattle.ipnetwork_blocks.proofs.LeastLists.{own_address, contains_nil, contains_head, pairs_append}
-use Rattle.ipnetwork_sets.specs.Counts.{HasCount, total}
-use Rattle.ipnetwork_sets.specs.Sets.{IsAddressSet}
-use Rattle.ipnetwork_sets.specs.Private.Totals.{capped}
+use Rattle.ipnetwork_sets.proofs.Words.{◌≡◌, ℕ, ◌+◌, ◌-◌, ◌^◌, ◌<◌, ◌≤◌, inl, inr, sym, refl, ap, subst, ◌∙◌, arith, ⊎_elim, List, [], ◌∷◌, ◌++◌, length, min, min-eq_left, min-eq_right, pow_mono, cases_lt, length-append, Contains, Contains-append_left, Contains-append_right, Contains-append_cases, AllPairs-from_increasing, Network, IsCidrBlock, Member, block_size, low, members, size_pos, high_fits, within_member, lists_members, length-count_up, InUnion, AggregateIsApart, own_address, contains_nil, contains_head, pairs_append, HasCount, total, IsAddressSet, capped}
 use Rattle.ipnetwork_sets.proofs.Lists.{set_block}
 use Rattle.ipnetwork_sets.proofs.Steps.{tail_is_set, union_cons, union_nil, union_behind}
 
@@ -35,10 +19,12 @@ pub total_push : (w : ℕ) (ns : List Network) (n : Network) → total w (ns ++ 
 total_push w [] n = let e : block_size w n.prefix + 0 ≡ 0 + block_size w n.prefix = omega arith in e
 total_push w (m ∷ ns) n =
     let e : total w (ns ++ n ∷ []) ≡ total w ns + block_size w n.prefix = total_push w ns n in
-    let r : block_size w m.prefix + total w (ns ++ n ∷ []) ≡ block_size w m.prefix + total w ns + block_size w n.prefix = omega (arith, e) in r
+    let r : block_size w m.prefix + total w (ns ++ n ∷ []) ≡ block_size w m.prefix + total w ns + block_size w
+    n.prefix = omega (arith, e) in r
 
 -- one more network is counted
-pub counts_more : (w count next : ℕ) (ns more : List Network) (n : Network) → count ≡ capped (total w ns) → more ≡ ns ++ n ∷ []
+pub counts_more : (w count next : ℕ) (ns more : List Network) (n : Network) → count ≡ capped (total w ns)
+    → more ≡ ns ++ n ∷ []
     → next ≡ min (count + block_size w n.prefix) (2 ^ 128) → next ≡ capped (total w more)
 counts_more w count next ns more n e f g =
     g ∙ ap (λ k. min (k + block_size w n.prefix) (2 ^ 128)) e ∙ kept_sum (total w ns) (block_size w n.prefix) (2 ^ 128)
@@ -46,7 +32,8 @@ counts_more w count next ns more n e f g =
 
 -- ---- the addresses of a set
 
-pub total_fits : (w : ℕ) (bs : List Network) (from : ℕ) → AggregateIsApart → IsAddressSet w bs → ((x : ℕ) → InUnion w bs x → from ≤ x) → from ≤ 2 ^ w → from + total w bs ≤ 2 ^ w
+pub total_fits : (w : ℕ) (bs : List Network) (from : ℕ) → AggregateIsApart → IsAddressSet w bs
+    → ((x : ℕ) → InUnion w bs x → from ≤ x) → from ≤ 2 ^ w → from + total w bs ≤ 2 ^ w
 total_fits w [] from apart h all fits = omega arith
 total_fits w (b ∷ bs) from apart h all fits =
     let hb : IsCidrBlock w b = set_block w (b ∷ bs) b h (contains_head b bs) in
@@ -71,7 +58,8 @@ counted w (b ∷ bs) apart h =
     let rest = counted w bs apart (tail_is_set w b bs apart h) in
     record {
       addresses = members w b ++ rest.addresses;
-      ascending = pairs_append (λ x y. x < y) (members w b) rest.addresses (AllPairs-from_increasing (members w b) first.ascending) rest.ascending
+      ascending = pairs_append (λ x y. x < y) (members w b) rest.addresses
+          (AllPairs-from_increasing (members w b) first.ascending) rest.ascending
           (λ x y c d.
           let i = within_member w b x (first.each x c) in
           let l = union_behind w b bs apart h y ((rest.exactly y).0 d) in
@@ -87,16 +75,19 @@ counted w (b ∷ bs) apart h =
             ((union_cons w b bs x).0 u)),
       );
       count =
-          let sum : length (members w b ++ rest.addresses) ≡ length (members w b) + length rest.addresses = length-append (members w b) rest.addresses in
+          let sum : length (members w b ++ rest.addresses) ≡ length (members w b) + length rest.addresses =
+          length-append (members w b) rest.addresses in
           omega (arith, sum, length-count_up (low w b) (block_size w b.prefix), rest.count);
     }
 
 -- the total is at most the number of all addresses
 pub total_is_within : (w : ℕ) (bs : List Network) → AggregateIsApart → IsAddressSet w bs → total w bs ≤ 2 ^ w
-total_is_within w bs apart h = let fits = total_fits w bs 0 apart h (λ x c. omega arith) (omega arith) in omega (arith, fits)
+total_is_within w bs apart h = let fits = total_fits w bs 0 apart h (λ x c. omega arith) (omega arith) in
+    omega (arith, fits)
 
 -- the count of a set, if the addresses have at most 128 bits
-pub has_count : (w : ℕ) (bs : List Network) (count : ℕ) → AggregateIsApart → IsAddressSet w bs → count ≡ capped (total w bs) → w ≤ 128 → HasCount (InUnion w bs) count
+pub has_count : (w : ℕ) (bs : List Network) (count : ℕ) → AggregateIsApart → IsAddressSet w bs
+    → count ≡ capped (total w bs) → w ≤ 128 → HasCount (InUnion w bs) count
 has_count w bs count apart h e le =
     let fits = total_fits w bs 0 apart h (λ x c. omega arith) (omega arith) in
     let small : 2 ^ w ≤ 2 ^ 128 = pow_mono le in

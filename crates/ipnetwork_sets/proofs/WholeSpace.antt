@@ -1,10 +1,5 @@
 -- The network of prefix length 0 has all addresses, so its free part is the complement of the set.
-use Rattle.std.proofs.Common.{◌≡◌, ℕ, ◌-◌, ◌/◌, ◌^◌, ◌<◌, ap, sym, subst, ◌∙◌, arith, List}
-use Rattle.ipnetwork_family.specs.Network.{Network, Member, block_size}
-use Rattle.ipnetwork_family.proofs.Blocks.{div_within}
-use Rattle.ipnetwork_blocks.specs.LeastList.{IsLeastList}
-use Rattle.ipnetwork_blocks.proofs.LeastLists.{least_of_same}
-use Rattle.ipnetwork_sets.specs.Sets.{InNetworkAlone, InComplement}
+use Rattle.ipnetwork_sets.proofs.Words.{◌≡◌, ℕ, ◌-◌, ◌/◌, ◌^◌, ◌<◌, ap, sym, subst, ◌∙◌, arith, List, Network, Member, block_size, div_within, IsLeastList, least_of_same, InNetworkAlone, InComplement}
 
 abbrev pub whole : Network
 whole = record { address = 0; prefix = 0 }
@@ -18,7 +13,8 @@ whole_quotient w x l =
 pub whole_has_all : (w x : ℕ) → x < 2 ^ w → Member w whole x
 whole_has_all w x l = (l, whole_quotient w x l ∙ sym (whole_quotient w 0 (omega (arith, l))))
 
-pub complement_is_least : (w : ℕ) (n : Network) (a blocks : List Network) → n ≡ whole → IsLeastList w (InNetworkAlone w n a) blocks → IsLeastList w (InComplement w a) blocks
+pub complement_is_least : (w : ℕ) (n : Network) (a blocks : List Network) → n ≡ whole
+    → IsLeastList w (InNetworkAlone w n a) blocks → IsLeastList w (InComplement w a) blocks
 complement_is_least w n a blocks e h =
     least_of_same w (InNetworkAlone w whole a) (InComplement w a) blocks
     (λ x. ((λ p. (p.0.0, p.1)), (λ p. (whole_has_all w x p.0, p.1))))

@@ -1,5 +1,5 @@
 -- Equality of sets, as equality of their lists of blocks.
-use Rattle.std.specs.Prelude.{◌≡◌, ◌↔◌, Bool, IsTrue, List}
+use Rattle.std.specs.Prelude.{Bool, List}
 use Rattle.std.specs.Ordering.{nat_cmp, on, then_cmp, eq_by_cmp}
 use Rattle.std.specs.Cmp.Lexicographic.{pointwise}
 use Rattle.ipnetwork_family.specs.Network.{Network}
@@ -11,7 +11,3 @@ same_network = eq_by_cmp (then_cmp (on (λ n. n.address) nat_cmp) (on (λ n. n.p
 -- whether two lists have the same networks in the same order
 abbrev pub same_blocks : List Network → List Network → Bool
 same_blocks a b = pointwise same_network a b
-
--- `same_blocks` holds exactly if the lists are equal
-abbrev pub SameBlocksAreEqual : Type 0
-SameBlocksAreEqual = (a b : List Network) → IsTrue (same_blocks a b) ↔ (a ≡ b)

@@ -2,16 +2,12 @@
 pub mod ChangeLaws
 pub mod CountLaws
 pub mod Counts
-pub mod DifferenceLaws
 pub mod Equality
 pub mod FreeBlocks
 pub mod IpEquality
-pub mod IpLaws
-pub mod IpQuestionLaws
 pub mod IpSets
 pub mod Laws
 pub mod Private
-pub mod QuestionLaws
 pub mod RangeLists
 pub mod Sets
 pub mod Texts

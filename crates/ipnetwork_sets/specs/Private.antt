@@ -2,7 +2,7 @@
 pub mod LeastBlocks
 pub mod Remainder
 pub mod Places
-pub mod Runs
+pub mod Touching
 pub mod Search
 pub mod Together
 pub mod Totals

@@ -1,15 +1,17 @@
 //! The addresses that are in one set and not in another.
-ghost use Rattle.std.specs.Prelude.{◌≡◌, ◌∷◌, [], MatchOption, map, option_map};
+ghost use Rattle.std.specs.Prelude.{◌≡◌, ◌∷◌, ◌≤◌, [], MatchOption, map, option_map};
 ghost use Rattle.std.specs.Iterator.{YieldsFirstBy, item_count};
+ghost use Rattle.ipnetwork_family.specs.Network.{IsCidrBlock, high};
 ghost use Rattle.ipnetwork_blocks.specs.LeastList.{IsLeastList};
 ghost use Rattle.std.specs.List.{All};
 ghost use Rattle.ipnetwork_sets.specs.Sets.{IsAddressSet, HoldSet, InFirstAlone, InNetworkAlone};
 ghost use Rattle.ipnetwork_sets.specs.Private.LeastBlocks.{left_blocks};
-ghost use Rattle.ipnetwork_sets.specs.Private.Remainder.{IsPiece, IsAtHand, TakesPart, HasNoPart, IsNextPart};
+ghost use Rattle.ipnetwork_sets.specs.Private.Remainder.{IsAtHand, TakesPart, HasNoPart, IsNextPart};
 
+use crate::free_range::first_free_range;
 use crate::held::split_held;
-use crate::pieces::{first_free, piece_behind};
-use ipnetwork_blocks::{AddressSpace, HoldsNetwork, block, laws};
+use crate::order::ends_at;
+use ipnetwork_blocks::{AddressSpace, HoldsNetwork, block, laws, widest_block};
 use std::marker::Model;
 
 /// An iterator over the blocks of a difference of sets, in ascending order. `H` is the type of the
@@ -28,11 +30,11 @@ pub struct Difference<'a, N: AddressSpace, H: HoldsNetwork<N> = N> {
     cut: &'a [H],
 }
 
-/// A block and a piece of it; the addresses of the block before the piece are done.
+/// A block, and a network whose own address is one of the block; the addresses before it are done.
 #[derive(Clone, Copy, Debug)]
 struct Part<N: AddressSpace> {
     whole: N,
-    piece: N,
+    next: N,
 }
 
 // A contract sees an iterator as the list of the blocks still to come.
@@ -46,11 +48,12 @@ impl<'a, N: AddressSpace, H: HoldsNetwork<N>> Model for Difference<'a, N, H> {
     ghost Value = { List Network };
 
     ghost view = { λ d. left_blocks N.WIDTH
-        (option_map (λ p. (N.pair p.whole, N.pair p.piece)) d.at_hand) (map H.held d.rest.now)
+        (option_map (λ p. (N.pair p.whole, (N.pair p.next).address)) d.at_hand)
+        (map H.held d.rest.now)
         (map H.held d.cut.now) };
 
     ghost invariant = { λ d. All H.holds d.rest.now × All H.holds d.cut.now
-        × IsAtHand N.WIDTH (option_map (λ p. (N.pair p.whole, N.pair p.piece)) d.at_hand)
+        × IsAtHand N.WIDTH (option_map (λ p. (N.pair p.whole, (N.pair p.next).address)) d.at_hand)
         (map H.held d.rest.now) (map H.held d.cut.now) };
 }
 
@@ -85,10 +88,7 @@ impl<'a, N: AddressSpace, H: HoldsNetwork<N>> Difference<'a, N, H> {
     {
         let whole = block(network);
         Difference {
-            at_hand: Some(Part {
-                whole,
-                piece: whole,
-            }),
+            at_hand: Some(Part { whole, next: whole }),
             rest: &cut[..0],
             cut,
         }
@@ -127,17 +127,18 @@ fn next_left<'a, N: AddressSpace, H: HoldsNetwork<N>>(
     requires rest { All H.holds rest.now }
     requires cut { All H.holds cut.now }
     requires at_hand { IsAtHand N.WIDTH
-        (option_map (λ p. (N.pair p.whole, N.pair p.piece)) at_hand) (map H.held rest.now)
+        (option_map (λ p. (N.pair p.whole, (N.pair p.next).address)) at_hand) (map H.held rest.now)
         (map H.held cut.now) }
     ensures { MatchOption result
-        (left_blocks N.WIDTH (option_map (λ p. (N.pair p.whole, N.pair p.piece)) at_hand)
+        (left_blocks N.WIDTH (option_map (λ p. (N.pair p.whole, (N.pair p.next).address)) at_hand)
         (map H.held rest.entry.now) (map H.held cut.entry.now) ≡ [])
         (λ r. All H.holds r.2.now × All H.holds r.3.now
-        × IsAtHand N.WIDTH (option_map (λ p. (N.pair p.whole, N.pair p.piece)) r.1)
+        × IsAtHand N.WIDTH (option_map (λ p. (N.pair p.whole, (N.pair p.next).address)) r.1)
         (map H.held r.2.now) (map H.held r.3.now)
-        × (left_blocks N.WIDTH (option_map (λ p. (N.pair p.whole, N.pair p.piece)) at_hand)
+        × (left_blocks N.WIDTH (option_map (λ p. (N.pair p.whole, (N.pair p.next).address)) at_hand)
         (map H.held rest.entry.now) (map H.held cut.entry.now)
-        ≡ N.pair r.0 ∷ left_blocks N.WIDTH (option_map (λ p. (N.pair p.whole, N.pair p.piece)) r.1)
+        ≡ N.pair r.0 ∷ left_blocks N.WIDTH
+        (option_map (λ p. (N.pair p.whole, (N.pair p.next).address)) r.1)
         (map H.held r.2.now) (map H.held r.3.now))) }
 {
     laws::one_block();
@@ -146,11 +147,12 @@ fn next_left<'a, N: AddressSpace, H: HoldsNetwork<N>>(
             return None;
         };
         rest = after;
-        let (free, left) = first_free::<N, H>(part.whole, part.piece, cut);
+        let (free, left) = first_free_range::<N, H>(part.whole, part.next.ip(), cut);
         cut = left;
-        if let Some(piece) = free {
-            let next = part_behind(part.whole, piece);
-            return Some((piece, next, rest, cut));
+        if let Some(range) = free {
+            let block = widest_block::<N>(range.0, range.1);
+            let next = part_behind(part.whole, block);
+            return Some((block, next, rest, cut));
         }
         at_hand = None;
     }
@@ -164,11 +166,11 @@ fn take_part<'a, N: AddressSpace, H: HoldsNetwork<N>>(
 ) -> Option<(Part<N>, &'a [H])>
     requires { All H.holds rest.now }
     ensures { MatchOption result
-        (HasNoPart (option_map (λ p. (N.pair p.whole, N.pair p.piece)) at_hand)
+        (HasNoPart (option_map (λ p. (N.pair p.whole, (N.pair p.next).address)) at_hand)
         (map H.held rest.now))
         (λ r. All H.holds r.1.now
-        × TakesPart (option_map (λ p. (N.pair p.whole, N.pair p.piece)) at_hand)
-        (map H.held rest.now) (N.pair r.0.whole, N.pair r.0.piece) (map H.held r.1.now)) }
+        × TakesPart (option_map (λ p. (N.pair p.whole, (N.pair p.next).address)) at_hand)
+        (map H.held rest.now) (N.pair r.0.whole, (N.pair r.0.next).address) (map H.held r.1.now)) }
 {
     match at_hand {
         Some(part) => Some((part, rest)),
@@ -176,23 +178,28 @@ fn take_part<'a, N: AddressSpace, H: HoldsNetwork<N>>(
             let Some((whole, after)) = split_held::<N, H>(rest) else {
                 return None;
             };
-            let part = Part {
-                whole,
-                piece: whole,
-            };
+            let part = Part { whole, next: whole };
             Some((part, after))
         }
     }
 }
 
-// The part of the whole after the piece; `None` if the whole ends with it.
-fn part_behind<N: AddressSpace>(whole: N, piece: N) -> Option<Part<N>>
-    requires { IsPiece N.WIDTH (N.pair whole) (N.pair piece) }
-    ensures { IsNextPart N.WIDTH (N.pair whole) (N.pair piece)
-        (option_map (λ p. (N.pair p.whole, N.pair p.piece)) result) }
+// The part of the whole after the block; `None` if the whole ends with it.
+fn part_behind<N: AddressSpace>(whole: N, block: N) -> Option<Part<N>>
+    requires whole { IsCidrBlock N.WIDTH (N.pair whole) }
+    requires within { high N.WIDTH (N.pair block) ≤ high N.WIDTH (N.pair whole) }
+    ensures { IsNextPart N.WIDTH (N.pair whole) (N.pair block)
+        (option_map (λ p. (N.pair p.whole, (N.pair p.next).address)) result) }
 {
-    match piece_behind(whole, piece) {
-        Some(piece) => Some(Part { whole, piece }),
-        None => None,
+    let last = block.broadcast();
+    if ends_at(whole, last) {
+        return None;
     }
+    let Some(next) = N::next_address(last) else {
+        unreachable!()
+    };
+    Some(Part {
+        whole,
+        next: N::block_at(next, N::WIDTH),
+    })
 }

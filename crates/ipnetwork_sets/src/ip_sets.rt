@@ -5,7 +5,6 @@ mod collecting;
 mod counting;
 mod equality;
 mod ip_address_set;
-pub mod laws;
 mod operations;
 
 pub use blocks::IpBlocks;

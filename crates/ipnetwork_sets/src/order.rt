@@ -1,7 +1,7 @@
 //! The order of networks and addresses.
 ghost use Rattle.std.specs.Prelude.{◌≡◌, ◌↔◌, ◌+◌, ◌<◌, ◌≤◌, IsTrue};
 ghost use Rattle.ipnetwork_family.specs.Network.{high};
-ghost use Rattle.ipnetwork_sets.specs.Private.Runs.{Touches};
+ghost use Rattle.ipnetwork_sets.specs.Private.Touching.{Touches};
 
 use ipnetwork_blocks::AddressSpace;
 
@@ -19,11 +19,11 @@ pub(crate) fn ends_at<N: AddressSpace>(network: N, last: N::Addr) -> bool
     last == network.broadcast()
 }
 
-/// Whether both have the same address.
-pub(crate) fn begin_alike<N: AddressSpace>(first: N, second: N) -> bool
-    ensures { IsTrue result ↔ ((N.pair first).address ≡ (N.pair second).address) }
+/// Whether the first address comes before the second.
+pub(crate) fn is_before<N: AddressSpace>(first: N::Addr, second: N::Addr) -> bool
+    ensures { IsTrue result ↔ (N.number first < N.number second) }
 {
-    first.ip() == second.ip()
+    first < second
 }
 
 /// Whether the second begins right after the first.

@@ -5,7 +5,7 @@ ghost use Rattle.ipnetwork_family.specs.Network.{high, low};
 ghost use Rattle.ipnetwork_blocks.specs.Aggregate.{InUnion};
 ghost use Rattle.ipnetwork_sets.specs.Sets.{IsAddressSet};
 ghost use Rattle.ipnetwork_sets.specs.RangeLists.{IsRangeList};
-ghost use Rattle.ipnetwork_sets.specs.Private.Runs.{runs, runs_left, IsAhead};
+ghost use Rattle.ipnetwork_sets.specs.Private.Touching.{runs, runs_left, IsAhead};
 
 use crate::address_set::AddressSet;
 use crate::address_slice::AddressSlice;
@@ -36,7 +36,7 @@ pub struct Ranges<N: AddressSpace, B: SetBlocks<N>> {
 // A contract sees an iterator as the list of the ranges still to come.
 impl<N: AddressSpace, B: SetBlocks<N>> Model for Ranges<N, B> {
     ghost use Rattle.std.specs.Prelude.{ℕ, List, option_map};
-    ghost use Rattle.ipnetwork_sets.specs.Private.Runs.{runs_left, IsAhead};
+    ghost use Rattle.ipnetwork_sets.specs.Private.Touching.{runs_left, IsAhead};
 
     ghost Value = { List (ℕ × ℕ) };
 

@@ -1,10 +1,10 @@
 //! Queries on a set, each by one binary search for the last block that begins at or before an
 //! address.
-ghost use Rattle.std.specs.Prelude.{◌≡◌, ◌↔◌, ◌+◌, ◌-◌, ◌*◌, ◌%◌, ◌^◌, ◌<◌, ◌≤◌, IsTrue, if◌then◌else◌, MatchOption, length, map};
+ghost use Rattle.std.specs.Prelude.{◌≡◌, ◌↔◌, ◌<◌, IsTrue, MatchOption, map, nat_le};
 ghost use Rattle.std.specs.List.{AllPairs};
 ghost use Rattle.ipnetwork_blocks.specs.Aggregate.{InUnion, LiesInUnion};
 ghost use Rattle.ipnetwork_sets.specs.Sets.{IsAddressSet, MeetsUnion};
-ghost use Rattle.ipnetwork_sets.specs.Private.Search.{NoneUpTo, IsLastUpTo, IsSplit};
+ghost use Rattle.ipnetwork_sets.specs.Private.Search.{NoneUpTo, IsLastUpTo, IsSplitAt};
 
 use ipnetwork_blocks::{AddressSpace, laws};
 
@@ -61,90 +61,22 @@ fn last_up_to<N: AddressSpace>(blocks: &[N], addr: N::Addr) -> Option<N>
     Some(blocks[count - 1])
 }
 
-/// The number of blocks that begin at or before the address. No branch depends on the blocks, since
-/// it would be mispredicted half the time.
+/// The number of blocks that begin at or before the address.
 #[inline(always)]
 pub(crate) fn count_up_to<N: AddressSpace>(blocks: &[N], addr: N::Addr) -> usize
     requires { AllPairs (λ a b. a.address < b.address) (map N.pair blocks.now) }
-    ensures { IsSplit (map N.pair blocks.now) (N.number addr) result result }
+    ensures { IsSplitAt (map N.pair blocks.now) (N.number addr) result result }
 {
-    let (mut from, mut left) = by_quarters(blocks, addr);
-    while left > 0 {
-        from += one_if(begins_up_to(blocks[from], addr));
-        left -= 1;
-    }
-    from
-}
-
-// The index of the first block that is left to search, and the number of blocks left: at most two.
-fn by_quarters<N: AddressSpace>(blocks: &[N], addr: N::Addr) -> (usize, usize)
-    requires { AllPairs (λ a b. a.address < b.address) (map N.pair blocks.now) }
-    ensures few { result.1 ≤ 2 }
-    ensures split { IsSplit (map N.pair blocks.now) (N.number addr) result.0 (result.0 + result.1) }
-{
-    let mut from = 0;
-    let mut left = blocks.len();
-    while left >= 3 {
-        (from, left) = quarter_of(blocks, addr, from, left);
-    }
-    (from, left)
-}
-
-// One step of the search among the `left` blocks from the index `from` on. Reads the last blocks of
-// the first three quarters, all at once, and returns the index at which the quarter to search
-// begins and the number of blocks to search there. That is the size of the last quarter: less than
-// two more than a quarter of `left`.
-fn quarter_of<N: AddressSpace>(
-    blocks: &[N],
-    addr: N::Addr,
-    from: usize,
-    left: usize,
-) -> (usize, usize)
-    requires ordered { AllPairs (λ a b. a.address < b.address) (map N.pair blocks.now) }
-    requires some { 3 ≤ left }
-    requires split { IsSplit (map N.pair blocks.now) (N.number addr) from (from + left) }
-    ensures part { 4 * result.1 ≤ left + 6 }
-    ensures split { IsSplit (map N.pair blocks.now) (N.number addr) result.0 (result.0 + result.1) }
-{
-    let quarter = size_of_quarter(left);
-    let first = begins_up_to(blocks[from + (quarter - 1)], addr);
-    let second = begins_up_to(blocks[from + (2 * quarter - 1)], addr);
-    let third = begins_up_to(blocks[from + (3 * quarter - 1)], addr);
-    (
-        from + times_if(first, second, third, quarter),
-        left - 3 * quarter,
+    blocks.partition_point(
+        |block: &N| -> bool
+            ensures { result ≡ nat_le (N.pair block.now).address (N.number addr) }
+        { begins_up_to(*block, addr) },
     )
-}
-
-// The number of blocks in each of the first three quarters: a quarter of `left + 1`, rounded down.
-fn size_of_quarter(left: usize) -> usize
-    requires { 3 ≤ left }
-    ensures most { 4 * result ≤ left + 1 }
-    ensures least { left ≤ 4 * result + 2 }
-{
-    (left - 3) / 4 + 1
-}
-
-// The size times the number of conditions that hold. The sum of the three is multiplied, since a
-// compiler makes a branch of a product with a single condition.
-fn times_if(first: bool, second: bool, third: bool, size: usize) -> usize
-    requires { 3 * size < 2 ^ 64 }
-    ensures { result ≡ (if first then size else 0) + (if second then size else 0) + (if third
-        then size else 0) }
-{
-    (one_if(first) + one_if(second) + one_if(third)) * size
-}
-
-// 1 if the condition holds, and 0 if not.
-fn one_if(holds: bool) -> usize
-    ensures { result ≡ (if holds then 1 else 0) }
-{
-    usize::from(holds)
 }
 
 // Whether the network's own address is at or before the address `addr`.
 fn begins_up_to<N: AddressSpace>(network: N, addr: N::Addr) -> bool
-    ensures { IsTrue result ↔ ((N.pair network).address ≤ N.number addr) }
+    ensures { result ≡ nat_le (N.pair network).address (N.number addr) }
 {
     network.ip() <= addr
 }

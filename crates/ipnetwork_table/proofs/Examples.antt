@@ -1,14 +1,11 @@
 -- Tables for which a misreading of the definitions would show, with addresses of three bits.
-use Rattle.std.proofs.Common.{◌≡◌, ℕ, ◌+◌, ◌/◌, ◌≤◌, Some, None, [], ◌∷◌, refl, arith, lit<}
-use Rattle.std.specs.Prelude.{IsSome}
-use Rattle.std.specs.FinMap.{get}
-use Rattle.ipnetwork_table.specs.Table.{by_pair, found_by_pair, HasOnlyBlocks, HasNoHostBits, Answers}
-use Rattle.ipnetwork_table.specs.Computed.Longest.{longest_of}
+use Rattle.ipnetwork_table.proofs.Words.{◌≡◌, ℕ, ◌+◌, ◌≤◌, Some, None, [], ◌∷◌, refl, arith, lit<, IsSome, get, by_pair, found_by_pair, HasOnlyBlocks, HasNoHostBits, Answers, longest_of}
 use Rattle.ipnetwork_table.proofs.LawExamples.{net, Table, routes}
 
 -- ---- entries keep their order and their values, and each network is converted
 
-pub entries_by_pair : by_pair {N = ℕ} {V = ℕ} (λ x. net x (x + 1)) ((4, 7) ∷ (0, 5) ∷ []) ≡ (net 4 5, 7) ∷ (net 0 1, 5) ∷ []
+pub entries_by_pair : by_pair {N = ℕ} {V = ℕ} (λ x. net x (x + 1)) ((4, 7) ∷ (0, 5) ∷ []) ≡ (net 4 5, 7)
+    ∷ (net 0 1, 5) ∷ []
 entries_by_pair = refl
 
 pub found_as_pair : found_by_pair {N = ℕ} {V = ℕ} (λ x. net x (x + 1)) (Some (4, 7)) ≡ Some (net 4 5, 7)
@@ -23,7 +20,8 @@ pub host_bits_are_no_key : (t : Table) → HasOnlyBlocks 3 t → ¬ (IsSome (get
 host_bits_are_no_key t only stored = let clear : 5 ≡ 4 = (only (net 5 1) stored).block in omega (arith, clear)
 
 pub prefix_of_four_is_no_key : (t : Table) → HasOnlyBlocks 3 t → ¬ (IsSome (get t (net 0 4)))
-prefix_of_four_is_no_key t only stored = let fits : 4 ≤ 3 = (only (net 0 4) stored).network.prefix_fits in omega (arith, fits)
+prefix_of_four_is_no_key t only stored = let fits : 4 ≤ 3 = (only (net 0 4) stored).network.prefix_fits in
+    omega (arith, fits)
 
 pub eight_is_no_key : (t : Table) → HasOnlyBlocks 3 t → ¬ (IsSome (get t (net 8 3)))
 eight_is_no_key t only stored = omega (arith, (only (net 8 3) stored).network.address_fits)

@@ -1,32 +1,30 @@
 -- What an insertion and a removal do to the keys.
-use Rattle.std.proofs.Common.{◌≡◌, ◌≢◌, ℕ, true, false, cond, Some, None, sym, refl, ap, subst, ◌∙◌}
-use Rattle.std.specs.Prelude.{IsSome}
-use Rattle.std.specs.FinMap.{FinMap, get, insert, remove, empty, get-empty, get-insert, get-remove}
-use Rattle.std.specs.Ordering.{eq_by_cmp}
-use Rattle.std.proofs.lemmas.Bool.{false_from_ne_true}
-use Rattle.std.proofs.lemmas.Cmp.{eq_by_cmp_equiv}
-use Rattle.ipnetwork_family.specs.Network.{Network, HostBitsAreZero, block_of, network_cmp}
-use Rattle.ipnetwork_table.specs.Table.{HasNoHostBits}
+use Rattle.ipnetwork_table.proofs.Words.{◌≡◌, ◌≢◌, ℕ, true, false, cond, Some, None, sym, refl, ap, subst, ◌∙◌, IsSome, FinMap, get, insert, remove, empty, get-empty, get-insert, get-remove, eq_by_cmp, false_from_ne_true, eq_by_cmp_equiv, Network, HostBitsAreZero, block_of, network_cmp, HasNoHostBits}
 use Rattle.ipnetwork_table.proofs.Pairs.{total, one_network, tie_of}
 
 pub nothing : false ≡ true → ⊥
 nothing e = cc
 
 -- a property of every key
-pub none_fit : (V : Type 0) (Fits : Network → Type 0) (n : Network) → IsSome (get (empty {X = V} {R = network_cmp}) n) → Fits n
+pub none_fit : (V : Type 0) (Fits : Network → Type 0) (n : Network)
+    → IsSome (get (empty {X = V} {R = network_cmp}) n) → Fits n
 none_fit V Fits n stored = absurd (nothing (subst IsSome (get-empty network_cmp n) stored))
 
 module _ {V : Type 0} (Fits : Network → Type 0) where
-  pub fit_with : (t : FinMap network_cmp V) (n : Network) (v : V) → Fits n → ((m : Network) → IsSome (get t m) → Fits m) → (m : Network) → IsSome (get (insert t n v) m) → Fits m
+  pub fit_with : (t : FinMap network_cmp V) (n : Network) (v : V) → Fits n → ((m : Network) → IsSome (get t m) → Fits m)
+      → (m : Network) → IsSome (get (insert t n v) m) → Fits m
   fit_with t n v own fit m =
-      elim (eq_by_cmp network_cmp m n) as (λ b. eq_by_cmp network_cmp m n ≡ b → get (insert t n v) m ≡ cond b (Some v) (get t m) → IsSome (get (insert t n v) m) → Fits m) [
+      elim (eq_by_cmp network_cmp m n) as (λ b. eq_by_cmp network_cmp m n ≡ b
+      → get (insert t n v) m ≡ cond b (Some v) (get t m) → IsSome (get (insert t n v) m) → Fits m) [
         | true ↦ λ at is stored. subst Fits (sym (one_network m n (tie_of _ at))) own
         | false ↦ λ apart is stored. fit m (subst IsSome is stored)
       ] refl (get-insert total t n v m)
 
-  pub fit_without : (t : FinMap network_cmp V) (n : Network) → ((m : Network) → IsSome (get t m) → Fits m) → (m : Network) → IsSome (get (remove t n) m) → Fits m
+  pub fit_without : (t : FinMap network_cmp V) (n : Network) → ((m : Network) → IsSome (get t m) → Fits m)
+      → (m : Network) → IsSome (get (remove t n) m) → Fits m
   fit_without t n fit m =
-      elim (eq_by_cmp network_cmp m n) as (λ b. get (remove t n) m ≡ cond b None (get t m) → IsSome (get (remove t n) m) → Fits m) [
+      elim (eq_by_cmp network_cmp m n) as (λ b. get (remove t n) m ≡ cond b None (get t m)
+      → IsSome (get (remove t n) m) → Fits m) [
         | true ↦ λ is stored. absurd (nothing (subst IsSome is stored))
         | false ↦ λ is stored. fit m (subst IsSome is stored)
       ] (get-remove total t n m)
@@ -35,7 +33,8 @@ pub none_at_first : (V : Type 0) (w : ℕ) → HasNoHostBits w (empty {X = V} {R
 none_at_first V w = none_fit V (HostBitsAreZero w)
 
 module _ {V : Type 0} (w : ℕ) where
-  pub one_more : (t : FinMap network_cmp V) (n : Network) (v : V) → HostBitsAreZero w (block_of w n) → HasNoHostBits w t → HasNoHostBits w (insert t (block_of w n) v)
+  pub one_more : (t : FinMap network_cmp V) (n : Network) (v : V) → HostBitsAreZero w (block_of w n) → HasNoHostBits w t
+      → HasNoHostBits w (insert t (block_of w n) v)
   one_more t n v = fit_with (HostBitsAreZero w) t (block_of w n) v
 
   pub one_less : (t : FinMap network_cmp V) (n : Network) → HasNoHostBits w t → HasNoHostBits w (remove t n)

@@ -1,12 +1,5 @@
 -- How many stored blocks have a given prefix length.
-use Rattle.std.proofs.Common.{◌≡◌, ◌≢◌, ℕ, ◌+◌, ◌-◌, ◌<◌, ◌≤◌, ◌==◌, Bool, true, false, cond, List, [], ◌∷◌, length, get_or, set, slice_get, is_some, Option, Some, None, sym, refl, ap, ◌∙◌, arith}
-use Rattle.std.specs.Prelude.{IsSome, MatchBool, nat_lt}
-use Rattle.std.specs.Ordering.{eq_by_cmp}
-use Rattle.std.specs.FinMap.{FinMap, get, insert, remove, empty, len, entries, from_entries, retain_keys, get-empty, get-entries, get-from_entries, get-insert, get-remove, get-retain_keys, len-empty, len-entries, len-insert, len-remove, empty_of_len, same_map}
-use Rattle.std.proofs.lemmas.Bool.Decides.{Decides-eqb, Decides-ltb}
-use Rattle.std.proofs.lemmas.List.{get_or-set_same, get_or-set_other}
-use Rattle.ipnetwork_family.specs.Network.{Network, network_cmp}
-use Rattle.ipnetwork_table.specs.Private.Lengths.{count_of_length, CountsLengths, SomeHasLength, NoneHasLength}
+use Rattle.ipnetwork_table.proofs.Words.{◌≡◌, ◌≢◌, ℕ, ◌+◌, ◌-◌, ◌<◌, ◌≤◌, ◌==◌, Bool, true, false, cond, List, [], ◌∷◌, length, get_or, set, slice_get, is_some, Option, Some, None, sym, refl, ap, ◌∙◌, arith, IsSome, MatchBool, nat_lt, eq_by_cmp, FinMap, get, insert, remove, empty, len, entries, from_entries, retain_keys, get-empty, get-entries, get-from_entries, get-insert, get-remove, get-retain_keys, len-empty, len-entries, len-insert, len-remove, empty_of_len, same_map, Decides-eqb, Decides-ltb, get_or-set_same, get_or-set_other, Network, network_cmp, count_of_length, CountsLengths, SomeHasLength, NoneHasLength}
 use Rattle.ipnetwork_table.proofs.Keys.{nothing}
 use Rattle.ipnetwork_table.proofs.Listing.{listed_is_stored}
 use Rattle.ipnetwork_table.proofs.Pairs.{total, one_network, tie_of}
@@ -28,7 +21,8 @@ module _ {V : Type 0} (test : Network → Bool) where
       ∙ elim (test n) as (λ b. cond {A = Option V} b None None ≡ None) [ true ↦ refl | false ↦ refl ]
       ∙ sym (get-empty network_cmp n))
 
-  kept_with : (t : FinMap network_cmp V) (m : Network) (v : V) → test m ≡ true → retain_keys (insert t m v) test ≡ insert (retain_keys t test) m v
+  kept_with : (t : FinMap network_cmp V) (m : Network) (v : V) → test m ≡ true
+      → retain_keys (insert t m v) test ≡ insert (retain_keys t test) m v
   kept_with t m v passes = same_map total one_network _ _ (λ n.
       kept (insert t m v) n
       ∙ ap (λ o. cond (test n) o None) (get-insert total t m v n)
@@ -40,7 +34,8 @@ module _ {V : Type 0} (test : Network → Bool) where
       ∙ ap (cond (eq_by_cmp network_cmp n m) (Some v)) (sym (kept t n))
       ∙ sym (get-insert total (retain_keys t test) m v n))
 
-  kept_beside : (t : FinMap network_cmp V) (m : Network) (v : V) → test m ≡ false → retain_keys (insert t m v) test ≡ retain_keys t test
+  kept_beside : (t : FinMap network_cmp V) (m : Network) (v : V) → test m ≡ false
+      → retain_keys (insert t m v) test ≡ retain_keys t test
   kept_beside t m v fails = same_map total one_network _ _ (λ n.
       kept (insert t m v) n
       ∙ ap (λ o. cond (test n) o None) (get-insert total t m v n)
@@ -52,11 +47,13 @@ module _ {V : Type 0} (test : Network → Bool) where
       ] refl
       ∙ sym (kept t n))
 
-  kept_without : (t : FinMap network_cmp V) (m : Network) → retain_keys (remove t m) test ≡ remove (retain_keys t test) m
+  kept_without : (t : FinMap network_cmp V) (m : Network)
+      → retain_keys (remove t m) test ≡ remove (retain_keys t test) m
   kept_without t m = same_map total one_network _ _ (λ n.
       kept (remove t m) n
       ∙ ap (λ o. cond (test n) o None) (get-remove total t m n)
-      ∙ elim (eq_by_cmp network_cmp n m) as (λ b. cond (test n) (cond b None (get t n)) None ≡ cond b None (cond (test n) (get t n) None)) [
+      ∙ elim (eq_by_cmp network_cmp n m) as (λ b. cond (test n) (cond b None (get t n)) None ≡ cond b None
+      (cond (test n) (get t n) None)) [
         | true ↦ elim (test n) as (λ b. cond {A = Option V} b None None ≡ None) [ true ↦ refl | false ↦ refl ]
         | false ↦ refl
       ]
@@ -64,39 +61,50 @@ module _ {V : Type 0} (test : Network → Bool) where
       ∙ sym (get-remove total (retain_keys t test) m n))
 
   -- whether a key is among those that pass
-  key_kept : (t : FinMap network_cmp V) (m : Network) → is_some (get (retain_keys t test) m) ≡ cond (test m) (is_some (get t m)) false
-  key_kept t m = ap is_some (kept t m) ∙ elim (test m) as (λ b. is_some (cond b (get t m) None) ≡ cond b (is_some (get t m)) false) [ true ↦ refl | false ↦ refl ]
+  key_kept : (t : FinMap network_cmp V) (m : Network)
+      → is_some (get (retain_keys t test) m) ≡ cond (test m) (is_some (get t m)) false
+  key_kept t m = ap is_some (kept t m) ∙ elim (test m) as (λ b. is_some (cond b (get t m) None) ≡ cond b
+      (is_some (get t m)) false) [ true ↦ refl | false ↦ refl ]
 
-  kept_is_there : (t : FinMap network_cmp V) (m : Network) → IsSome (get (retain_keys t test) m) → IsSome (get t m) × (test m ≡ true)
-  kept_is_there t m stays = elim (test m) as (λ b. test m ≡ b → cond b (is_some (get t m)) false ≡ true → IsSome (get t m) × (test m ≡ true)) [
-    | true ↦ λ passes stored. (stored, passes)
-    | false ↦ λ fails stored. absurd (nothing stored)
-  ] refl (sym (key_kept t m) ∙ stays)
+  kept_is_there : (t : FinMap network_cmp V) (m : Network) → IsSome (get (retain_keys t test) m)
+      → IsSome (get t m) × (test m ≡ true)
+  kept_is_there t m stays = elim (test m) as (λ b. test m ≡ b → cond b (is_some (get t m)) false ≡ true
+      → IsSome (get t m) × (test m ≡ true)) [
+        | true ↦ λ passes stored. (stored, passes)
+        | false ↦ λ fails stored. absurd (nothing stored)
+      ] refl (sym (key_kept t m) ∙ stays)
 
   -- if the number of keys that pass is greater than 0, some key passes
-  one_of_them : (t : FinMap network_cmp V) → 0 < len (retain_keys t test) → (m : Network) × IsSome (get t m) × (test m ≡ true)
+  one_of_them : (t : FinMap network_cmp V) → 0 < len (retain_keys t test) → (m : Network) × IsSome (get t m)
+      × (test m ≡ true)
   one_of_them t some = first_of_them (entries (retain_keys t test)) refl where
-    first_of_them : (es : List (Network × V)) → entries (retain_keys t test) ≡ es → (m : Network) × IsSome (get t m) × (test m ≡ true)
-    first_of_them [] none = absurd (let number : len (retain_keys t test) ≡ 0 = len-entries (retain_keys t test) ∙ ap length none in omega (arith, number, some))
+    first_of_them : (es : List (Network × V)) → entries (retain_keys t test) ≡ es → (m : Network) × IsSome (get t m)
+        × (test m ≡ true)
+    first_of_them [] none = absurd (let number : len (retain_keys t test) ≡ 0 = len-entries (retain_keys t test)
+        ∙ ap length none in omega (arith, number, some))
     first_of_them (e ∷ es) is =
-        let there = kept_is_there t e.0 (ap is_some (listed_is_stored (retain_keys t test) 0 e.0 e.1 (ap (λ (l : List (Network × V)). slice_get l 0) is))) in
+        let there = kept_is_there t e.0 (ap is_some
+        (listed_is_stored (retain_keys t test) 0 e.0 e.1 (ap (λ (l : List (Network × V)). slice_get l 0) is))) in
         (e.0, there.0, there.1)
 
   -- ---- the number of keys that pass
 
   listed_at_most : (es : List (Network × V)) → len (retain_keys (from_entries {R = network_cmp} es) test) ≤ length es
-  listed_at_most [] = let none : len (retain_keys (empty {X = V} {R = network_cmp}) test) ≡ 0 = ap len kept_of_none ∙ len-empty network_cmp V in omega (arith, none)
+  listed_at_most [] = let none : len (retain_keys (empty {X = V} {R = network_cmp}) test) ≡ 0 = ap len kept_of_none
+      ∙ len-empty network_cmp V in omega (arith, none)
   listed_at_most (e ∷ es) =
       let others = from_entries {R = network_cmp} es in
       let before = listed_at_most es in
       elim (test e.0) as (λ b. test e.0 ≡ b → len (retain_keys (insert others e.0 e.1) test) ≤ length (e ∷ es)) [
         | true ↦ λ passes.
-            let now : len (retain_keys (insert others e.0 e.1) test) ≡ cond (is_some (get (retain_keys others test) e.0)) (len (retain_keys others test)) (len (retain_keys others test) + 1) =
+            let now : len (retain_keys (insert others e.0 e.1) test) ≡ cond (is_some (get (retain_keys others test)
+            e.0)) (len (retain_keys others test)) (len (retain_keys others test) + 1) =
             ap len (kept_with others e.0 e.1 passes) ∙ len-insert total (retain_keys others test) e.0 e.1 in
             let most = one_more_at_most (is_some (get (retain_keys others test) e.0)) (len (retain_keys others test)) in
             omega (arith, now, most, before)
         | false ↦ λ fails.
-            let now : len (retain_keys (insert others e.0 e.1) test) ≡ len (retain_keys others test) = ap len (kept_beside others e.0 e.1 fails) in
+            let now : len (retain_keys (insert others e.0 e.1) test) ≡ len (retain_keys others test) =
+            ap len (kept_beside others e.0 e.1 fails) in
             omega (arith, now, before)
       ] refl
 
@@ -106,32 +114,39 @@ module _ {V : Type 0} (test : Network → Bool) where
   at_most : (t : FinMap network_cmp V) → len (retain_keys t test) ≤ len t
   at_most t =
       let listed = listed_at_most (entries t) in
-      let same : len (retain_keys (from_entries (entries t)) test) ≡ len (retain_keys t test) = ap (λ (s : FinMap network_cmp V). len (retain_keys s test)) (whole t) in
+      let same : len (retain_keys (from_entries (entries t)) test) ≡ len (retain_keys t test) =
+      ap (λ (s : FinMap network_cmp V). len (retain_keys s test)) (whole t) in
       let number = len-entries t in
       omega (arith, listed, same, number)
 
   -- after the insertion of a new key that passes
-  one_more : (t : FinMap network_cmp V) (m : Network) (v : V) → test m ≡ true → get t m ≡ None → len (retain_keys (insert t m v) test) ≡ len (retain_keys t test) + 1
+  one_more : (t : FinMap network_cmp V) (m : Network) (v : V) → test m ≡ true → get t m ≡ None
+      → len (retain_keys (insert t m v) test) ≡ len (retain_keys t test) + 1
   one_more t m v passes new =
-      let absent : is_some (get (retain_keys t test) m) ≡ false = key_kept t m ∙ ap (λ b. cond b (is_some (get t m)) false) passes ∙ ap is_some new in
+      let absent : is_some (get (retain_keys t test) m) ≡ false = key_kept t m
+      ∙ ap (λ b. cond b (is_some (get t m)) false) passes ∙ ap is_some new in
       ap len (kept_with t m v passes)
       ∙ len-insert total (retain_keys t test) m v
       ∙ ap (λ b. cond b (len (retain_keys t test)) (len (retain_keys t test) + 1)) absent
 
   -- after the insertion of a key that is already stored
-  no_more : (t : FinMap network_cmp V) (m : Network) (v : V) → IsSome (get t m) → len (retain_keys (insert t m v) test) ≡ len (retain_keys t test)
-  no_more t m v stored = elim (test m) as (λ b. test m ≡ b → len (retain_keys (insert t m v) test) ≡ len (retain_keys t test)) [
-    | true ↦ λ passes.
-        let present : is_some (get (retain_keys t test) m) ≡ true = key_kept t m ∙ ap (λ b. cond b (is_some (get t m)) false) passes ∙ stored in
-        ap len (kept_with t m v passes)
-        ∙ len-insert total (retain_keys t test) m v
-        ∙ ap (λ b. cond b (len (retain_keys t test)) (len (retain_keys t test) + 1)) present
-    | false ↦ λ fails. ap len (kept_beside t m v fails)
-  ] refl
+  no_more : (t : FinMap network_cmp V) (m : Network) (v : V) → IsSome (get t m)
+      → len (retain_keys (insert t m v) test) ≡ len (retain_keys t test)
+  no_more t m v stored = elim (test m) as (λ b. test m ≡ b
+      → len (retain_keys (insert t m v) test) ≡ len (retain_keys t test)) [
+        | true ↦ λ passes.
+            let present : is_some (get (retain_keys t test) m) ≡ true = key_kept t m
+            ∙ ap (λ b. cond b (is_some (get t m)) false) passes ∙ stored in
+            ap len (kept_with t m v passes)
+            ∙ len-insert total (retain_keys t test) m v
+            ∙ ap (λ b. cond b (len (retain_keys t test)) (len (retain_keys t test) + 1)) present
+        | false ↦ λ fails. ap len (kept_beside t m v fails)
+      ] refl
 
   -- after the removal of a key
   after_removal : (t : FinMap network_cmp V) (m : Network)
-      → len (retain_keys (remove t m) test) ≡ cond (cond (test m) (is_some (get t m)) false) (len (retain_keys t test) - 1) (len (retain_keys t test))
+      → len (retain_keys (remove t m) test) ≡ cond (cond (test m) (is_some (get t m)) false)
+      (len (retain_keys t test) - 1) (len (retain_keys t test))
   after_removal t m =
       ap len (kept_without t m)
       ∙ len-remove total (retain_keys t test) m
@@ -140,8 +155,10 @@ module _ {V : Type 0} (test : Network → Bool) where
   -- a key that passes is counted
   some_kept : (t : FinMap network_cmp V) (m : Network) → test m ≡ true → IsSome (get t m) → len (retain_keys t test) ≢ 0
   some_kept t m passes stored none =
-      let absent : is_some (get (retain_keys t test) m) ≡ false = ap (λ (s : FinMap network_cmp V). is_some (get s m)) (empty_of_len (retain_keys t test) none) ∙ ap is_some (get-empty network_cmp m) in
-      let present : is_some (get (retain_keys t test) m) ≡ true = key_kept t m ∙ ap (λ b. cond b (is_some (get t m)) false) passes ∙ stored in
+      let absent : is_some (get (retain_keys t test) m) ≡ false = ap (λ (s : FinMap network_cmp V). is_some (get s m))
+      (empty_of_len (retain_keys t test) none) ∙ ap is_some (get-empty network_cmp m) in
+      let present : is_some (get (retain_keys t test) m) ≡ true = key_kept t m
+      ∙ ap (λ b. cond b (is_some (get t m)) false) passes ∙ stored in
       nothing (sym absent ∙ present)
 
 -- ---- the counts of all prefix lengths
@@ -168,7 +185,8 @@ module _ {V : Type 0} (t : FinMap network_cmp V) (counts : List ℕ) (counted : 
       let same : get_or counts n.prefix 0 ≡ 0 = ap (λ q. get_or counts q 0) at ∙ none in
       omega (arith, above, same)
 
-  pub tells_length : (p : ℕ) → p < 256 → MatchBool (nat_lt 0 (get_or counts p 0)) (SomeHasLength t p) (NoneHasLength t p)
+  pub tells_length : (p : ℕ) → p < 256
+      → MatchBool (nat_lt 0 (get_or counts p 0)) (SomeHasLength t p) (NoneHasLength t p)
   tells_length p within =
       let number = get_or counts p 0 in
       elim (nat_lt 0 number) as (λ b. nat_lt 0 number ≡ b → MatchBool b (SomeHasLength t p) (NoneHasLength t p)) [
@@ -179,7 +197,8 @@ module _ {V : Type 0} (t : FinMap network_cmp V) (counts : List ℕ) (counted : 
       ] refl
 
   -- if the block is new, fewer blocks have its prefix length than there are blocks after the insertion
-  pub room_for_one : (m : Network) (v : V) → m.prefix < 256 → get t m ≡ None → get_or counts m.prefix 0 < len (insert t m v)
+  pub room_for_one : (m : Network) (v : V) → m.prefix < 256 → get t m ≡ None
+      → get_or counts m.prefix 0 < len (insert t m v)
   room_for_one m v within new =
       let is = counted m.prefix within in
       let more = one_more (λ n. n.prefix == m.prefix) t m v ((Decides-eqb m.prefix m.prefix).1 refl) new in
@@ -191,28 +210,38 @@ module _ {V : Type 0} (t : FinMap network_cmp V) (counts : List ℕ) (counted : 
     here p same fits = ap (λ q. get_or counts q 0) ((Decides-eqb m.prefix p).0 same) ∙ counted p fits
 
     set_here : (p x : ℕ) → (m.prefix == p) ≡ true → get_or (set counts m.prefix x) p 0 ≡ x
-    set_here p x same = ap (λ q. get_or (set counts m.prefix x) q 0) (sym ((Decides-eqb m.prefix p).0 same)) ∙ get_or-set_same counts m.prefix x 0 within
+    set_here p x same = ap (λ q. get_or (set counts m.prefix x) q 0) (sym ((Decides-eqb m.prefix p).0 same))
+        ∙ get_or-set_same counts m.prefix x 0 within
 
     set_beside : (p x : ℕ) → (m.prefix == p) ≡ false → get_or (set counts m.prefix x) p 0 ≡ get_or counts p 0
-    set_beside p x other = get_or-set_other counts m.prefix p x 0 (λ at. nothing (sym other ∙ (Decides-eqb m.prefix p).1 (sym at)))
+    set_beside p x other = get_or-set_other counts m.prefix p x 0
+        (λ at. nothing (sym other ∙ (Decides-eqb m.prefix p).1 (sym at)))
 
-    pub counted_with : (v : V) → get t m ≡ None → CountsLengths (insert t m v) (set counts m.prefix (get_or counts m.prefix 0 + 1))
+    pub counted_with : (v : V) → get t m ≡ None
+        → CountsLengths (insert t m v) (set counts m.prefix (get_or counts m.prefix 0 + 1))
     counted_with v new p fits =
-        elim (m.prefix == p) as (λ b. (m.prefix == p) ≡ b → get_or (set counts m.prefix (get_or counts m.prefix 0 + 1)) p 0 ≡ count_of_length (insert t m v) p) [
-          | true ↦ λ same. set_here p _ same ∙ ap (λ n. n + 1) (here p same fits) ∙ sym (one_more (λ n. n.prefix == p) t m v same new)
-          | false ↦ λ other. set_beside p _ other ∙ counted p fits ∙ sym (ap len (kept_beside (λ n. n.prefix == p) t m v other))
+        elim (m.prefix == p) as (λ b. (m.prefix == p) ≡ b
+        → get_or (set counts m.prefix (get_or counts m.prefix 0 + 1)) p 0 ≡ count_of_length (insert t m v) p) [
+          | true ↦ λ same. set_here p _ same ∙ ap (λ n. n + 1) (here p same fits)
+              ∙ sym (one_more (λ n. n.prefix == p) t m v same new)
+          | false ↦ λ other. set_beside p _ other ∙ counted p fits
+              ∙ sym (ap len (kept_beside (λ n. n.prefix == p) t m v other))
         ] refl
 
-    pub counted_without : IsSome (get t m) → CountsLengths (remove t m) (set counts m.prefix (get_or counts m.prefix 0 - 1))
+    pub counted_without : IsSome (get t m)
+        → CountsLengths (remove t m) (set counts m.prefix (get_or counts m.prefix 0 - 1))
     counted_without stored p fits =
         let number = count_of_length t p in
-        elim (m.prefix == p) as (λ b. (m.prefix == p) ≡ b → get_or (set counts m.prefix (get_or counts m.prefix 0 - 1)) p 0 ≡ count_of_length (remove t m) p) [
+        elim (m.prefix == p) as (λ b. (m.prefix == p) ≡ b
+        → get_or (set counts m.prefix (get_or counts m.prefix 0 - 1)) p 0 ≡ count_of_length (remove t m) p) [
           | true ↦ λ same. set_here p _ same
               ∙ ap (λ n. n - 1) (here p same fits)
-              ∙ sym (after_removal (λ n. n.prefix == p) t m ∙ ap (λ b. cond (cond b (is_some (get t m)) false) (number - 1) number) same ∙ ap (λ b. cond b (number - 1) number) stored)
+              ∙ sym (after_removal (λ n. n.prefix == p) t m ∙ ap (λ b. cond (cond b (is_some (get t m)) false)
+              (number - 1) number) same ∙ ap (λ b. cond b (number - 1) number) stored)
           | false ↦ λ other. set_beside p _ other
               ∙ counted p fits
-              ∙ sym (after_removal (λ n. n.prefix == p) t m ∙ ap (λ b. cond (cond b (is_some (get t m)) false) (number - 1) number) other)
+              ∙ sym (after_removal (λ n. n.prefix == p) t m
+              ∙ ap (λ b. cond (cond b (is_some (get t m)) false) (number - 1) number) other)
         ] refl
 
   pub counted_again : (m : Network) (v : V) → IsSome (get t m) → CountsLengths (insert t m v) counts
@@ -224,4 +253,5 @@ module _ {V : Type 0} (t : FinMap network_cmp V) (counts : List ℕ) (counted : 
       counted p fits
       ∙ sym (after_removal (λ n. n.prefix == p) t m
       ∙ ap (λ b. cond (cond (m.prefix == p) b false) (number - 1) number) (ap is_some absent)
-      ∙ elim (m.prefix == p) as (λ b. cond (cond b false false) (number - 1) number ≡ number) [ true ↦ refl | false ↦ refl ])
+      ∙ elim (m.prefix == p) as (λ b. cond (cond b false false) (number - 1)
+      number ≡ number) [ true ↦ refl | false ↦ refl ])

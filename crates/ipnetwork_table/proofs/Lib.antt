@@ -2,10 +2,12 @@ mod Examples
 mod Keys
 mod LawExamples
 mod Lengths
-pub mod Listing
 mod Longest
 mod LongestEntry
 mod Nearest
 mod Neighbours
+pub mod Known
+pub mod Listing
 pub mod OneAnswer
 pub mod Pairs
+pub mod Words

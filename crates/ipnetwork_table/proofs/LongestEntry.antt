@@ -1,15 +1,5 @@
 -- The longest block that holds an address, computed from the entries of a table.
-use Rattle.std.proofs.Common.{◌≡◌, ℕ, zero, suc, ◌≤◌, true, false, cond, List, [], ◌∷◌, Option, Some, None, sym, refl, ap, subst, ◌∙◌, arith, slice_get, is_some, inl, inr}
-use Rattle.std.specs.Prelude.{IsSome, MatchOption}
-use Rattle.std.specs.FinMap.{FinMap, get, entries}
-use Rattle.std.specs.Option.{unwrap_or}
-use Rattle.std.proofs.lemmas.Bool.Decides.{leb_tells}
-use Rattle.ipnetwork_family.specs.Laws.{MembershipComputed}
-use Rattle.ipnetwork_family.specs.Network.{Network, Member, network_cmp}
-use Rattle.ipnetwork_family.specs.Computed.Network.{is_member}
-use Rattle.ipnetwork_table.specs.Laws.{AnswerIsComputed}
-use Rattle.ipnetwork_table.specs.Table.{Answers}
-use Rattle.ipnetwork_table.specs.Computed.Longest.{longer, longest_of}
+use Rattle.ipnetwork_table.proofs.Words.{◌≡◌, ℕ, zero, suc, ◌≤◌, true, false, cond, List, [], ◌∷◌, Option, Some, None, sym, refl, ap, subst, ◌∙◌, arith, slice_get, is_some, inl, inr, IsSome, MatchOption, FinMap, get, entries, unwrap_or, leb_tells, MembershipComputed, Network, Member, network_cmp, is_member, AnswerIsComputed, Answers, longer, longest_of}
 use Rattle.ipnetwork_table.proofs.Listing.{listed_is_stored, stored_is_listed}
 
 no_truth : false ≡ true → ⊥
@@ -36,7 +26,8 @@ module _ (V : Type 0) (computed : MembershipComputed) where
 
   -- the entry is listed, its block holds x, and no listed block that holds x is longer
   abbrev IsBest : ℕ → ℕ → List Entry → Entry → Type 0
-  IsBest w x es e = IsListed es e × Member w e.0 x × ((other : Entry) → IsListed es other → Member w other.0 x → other.0.prefix ≤ e.0.prefix)
+  IsBest w x es e = IsListed es e × Member w e.0 x × ((other : Entry) → IsListed es other → Member w other.0 x
+      → other.0.prefix ≤ e.0.prefix)
 
   abbrev HoldsNone : ℕ → ℕ → List Entry → Type 0
   HoldsNone w x es = (e : Entry) → IsListed es e → ¬ (Member w e.0 x)
@@ -45,23 +36,42 @@ module _ (V : Type 0) (computed : MembershipComputed) where
   Best w x es found = MatchOption found (HoldsNone w x es) (IsBest w x es)
 
   -- what holds for the first entry and for all others holds for each entry
-  each : (P : Entry → Type 0) (e : Entry) (es : List Entry) → P e → ((other : Entry) → IsListed es other → P other) → (other : Entry) → IsListed (e ∷ es) other → P other
+  each : (P : Entry → Type 0) (e : Entry) (es : List Entry) → P e → ((other : Entry) → IsListed es other → P other)
+      → (other : Entry) → IsListed (e ∷ es) other → P other
   each P e es first others other (zero, at) = subst P (same_entry e other at) first
   each P e es first others other (suc i, at) = others other (i, at)
 
-  passed_over : (w x : ℕ) (e : Entry) (es : List Entry) (found : Option Entry) → ¬ (Member w e.0 x) → Best w x es found → Best w x (e ∷ es) found
+  passed_over : (w x : ℕ) (e : Entry) (es : List Entry) (found : Option Entry) → ¬ (Member w e.0 x) → Best w x es found
+      → Best w x (e ∷ es) found
   passed_over w x e es None out best = each (λ d. ¬ (Member w d.0 x)) e es out best
-  passed_over w x e es (Some d) out best =
-      ((suc best.0.0, best.0.1), best.1, each (λ f. Member w f.0 x → f.0.prefix ≤ d.0.prefix) e es (λ holds. absurd (out holds)) best.2)
+  passed_over w x e es (Some d) out best = (
+    (suc best.0.0, best.0.1),
+    best.1,
+    each (λ f. Member w f.0 x → f.0.prefix ≤ d.0.prefix) e es (λ holds. absurd (out holds)) best.2,
+  )
 
-  taken : (w x : ℕ) (e : Entry) (es : List Entry) (found : Option Entry) → Member w e.0 x → Best w x es found → Best w x (e ∷ es) (longer e found)
-  taken w x e es None holds best =
-      ((0, refl), holds, each (λ f. Member w f.0 x → f.0.prefix ≤ e.0.prefix) e es (λ same. omega arith) (λ f at within. absurd (best f at within)))
+  taken : (w x : ℕ) (e : Entry) (es : List Entry) (found : Option Entry) → Member w e.0 x → Best w x es found
+      → Best w x (e ∷ es) (longer e found)
+  taken w x e es None holds best = (
+    (0, refl),
+    holds,
+    each (λ f. Member w f.0 x → f.0.prefix ≤ e.0.prefix) e es (λ same. omega arith)
+        (λ f at within. absurd (best f at within)),
+  )
   taken w x e es (Some d) holds best = elim (leb_tells d.0.prefix e.0.prefix) [
     | inl shorter ↦ subst (Best w x (e ∷ es)) (sym (ap (λ b. cond b (Some e) (Some d)) shorter.0))
-        (((0, refl), holds, each (λ f. Member w f.0 x → f.0.prefix ≤ e.0.prefix) e es (λ same. omega arith) (λ f at within. omega (arith, shorter.1, best.2 f at within))))
+        ((
+          (0, refl),
+          holds,
+          each (λ f. Member w f.0 x → f.0.prefix ≤ e.0.prefix) e es (λ same. omega arith)
+              (λ f at within. omega (arith, shorter.1, best.2 f at within)),
+        ))
     | inr more ↦ subst (Best w x (e ∷ es)) (sym (ap (λ b. cond b (Some e) (Some d)) more.0))
-        (((suc best.0.0, best.0.1), best.1, each (λ f. Member w f.0 x → f.0.prefix ≤ d.0.prefix) e es (λ within. omega (arith, more.1)) best.2))
+        ((
+          (suc best.0.0, best.0.1),
+          best.1,
+          each (λ f. Member w f.0 x → f.0.prefix ≤ d.0.prefix) e es (λ within. omega (arith, more.1)) best.2,
+        ))
   ]
 
   best_of : (w x : ℕ) (es : List Entry) → Best w x es (longest_of w x es)
@@ -70,18 +80,21 @@ module _ (V : Type 0) (computed : MembershipComputed) where
       let rest = longest_of w x es in
       elim (is_member w e.0 x) as (λ b. is_member w e.0 x ≡ b → Best w x (e ∷ es) (cond b (longer e rest) rest)) [
         | true ↦ λ is. taken w x e es rest ((computed w e.0 x).0 is) (best_of w x es)
-        | false ↦ λ is. passed_over w x e es rest (λ holds. no_truth (sym is ∙ (computed w e.0 x).1 holds)) (best_of w x es)
+        | false ↦ λ is. passed_over w x e es rest (λ holds. no_truth (sym is ∙ (computed w e.0 x).1 holds))
+            (best_of w x es)
       ] refl
 
   -- ---- the longest of a table
 
-  in_table : (w : ℕ) (t : FinMap network_cmp V) (x : ℕ) (found : Option Entry) → Best w x (entries t) found → Answers w t x found
+  in_table : (w : ℕ) (t : FinMap network_cmp V) (x : ℕ) (found : Option Entry) → Best w x (entries t) found
+      → Answers w t x found
   in_table w t x None best = λ n stored holds.
       let v = value_of (get t n) stored in best (n, v.0) (stored_is_listed t n v.0 v.1) holds
   in_table w t x (Some e) best = record {
     stored = listed_is_stored t best.0.0 e.0 e.1 best.0.1;
     holds = best.1;
-    longest = λ m stored holds. let v = value_of (get t m) stored in best.2 (m, v.0) (stored_is_listed t m v.0 v.1) holds;
+    longest = λ m stored holds. let v = value_of (get t m) stored in
+        best.2 (m, v.0) (stored_is_listed t m v.0 v.1) holds;
   }
 
   -- the computed result is the result of a look-up

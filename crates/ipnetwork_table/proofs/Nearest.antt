@@ -1,12 +1,5 @@
 -- The last stored block that does not come after an address, and how many bits the two share.
-use Rattle.std.proofs.Common.{◌≡◌, ℕ, ◌-◌, ◌*◌, ◌/◌, ◌^◌, ◌<◌, ◌≤◌, inl, inr, Some, sym, ap, ◌∙◌, arith, ⊎_elim}
-use Rattle.std.specs.Prelude.{IsSome}
-use Rattle.std.specs.FinMap.{FinMap, get}
-use Rattle.std.proofs.lemmas.Bool.{cases_lt}
-use Rattle.ipnetwork_family.specs.Network.{Network, IsNetwork, Member, Subnet, IsNetworkAtMost, HostBitsAreZero, network_cmp, block_size, block_at}
-use Rattle.ipnetwork_family.proofs.Blocks.{div_within, block_same_set, coarser_size, member_within, within_member, subnet_from, shares_address, subnet_after}
-use Rattle.ipnetwork_table.specs.Table.{HasOnlyBlocks, IsLongest, NoneHolds}
-use Rattle.ipnetwork_table.specs.Private.Nearest.{NoneUpTo, IsLastUpTo, NoneAbove, ShareAtMost}
+use Rattle.ipnetwork_table.proofs.Words.{◌≡◌, ℕ, ◌-◌, ◌*◌, ◌/◌, ◌^◌, ◌<◌, ◌≤◌, inl, inr, Some, sym, ap, ◌∙◌, arith, ⊎_elim, IsSome, FinMap, get, cases_lt, Network, IsNetwork, Member, Subnet, IsNetworkAtMost, HostBitsAreZero, network_cmp, block_size, block_at, div_within, block_same_set, coarser_size, member_within, within_member, subnet_from, shares_address, subnet_after, HasOnlyBlocks, IsLongest, NoneHolds, NoneUpTo, IsLastUpTo, NoneAbove, ShareAtMost}
 
 -- ---- the number of shared bits
 
@@ -18,15 +11,19 @@ share_less w x y p more apart q beyond within holds = apart ((block_same_set w (
 -- any two addresses share at least 0 bits
 pub share_none : (w x y : ℕ) → x < 2 ^ w → y < 2 ^ w → Member w (record { address = x; prefix = 0 }) y
 share_none w x y x_fits y_fits =
-    let all : 2 ^ (w - 0) ≡ 2 ^ w = let none : w - 0 ≡ w = omega arith in ap (λ k. 2 ^ k) none in
-    (y_fits, div_within 0 (2 ^ (w - 0)) y (omega arith) (omega arith) ∙ sym (div_within 0 (2 ^ (w - 0)) x (omega arith) (omega arith)))
+    let all : 2 ^ (w - 0) ≡ 2 ^ w = let none : w - 0 ≡ w = omega arith in ap (λ k. 2 ^ k) none in (
+      y_fits,
+      div_within 0 (2 ^ (w - 0)) y (omega arith) (omega arith)
+          ∙ sym (div_within 0 (2 ^ (w - 0)) x (omega arith) (omega arith)),
+    )
 
 -- ---- the order
 
 whole : (w x : ℕ) → (block_at w x w).address ≡ x
 whole w x = let none : w - w ≡ 0 = omega arith in ap (λ k. x / 2 ^ k * 2 ^ k) none ∙ omega arith
 
-up_to_address : (w x : ℕ) (n : Network) → IsNetwork w n → HostBitsAreZero w n → Member w n x → IsNetworkAtMost n (block_at w x w)
+up_to_address : (w x : ℕ) (n : Network) → IsNetwork w n → HostBitsAreZero w n → Member w n x
+    → IsNetworkAtMost n (block_at w x w)
 up_to_address w x n fits block holds =
     let from = within_member w n x holds in
     let at = whole w x in
@@ -36,11 +33,13 @@ up_to_address w x n fits block holds =
     (cases_lt n.address x)
 
 address_up_to : (m n : Network) → IsNetworkAtMost m n → m.address ≤ n.address
-address_up_to m n most = ⊎_elim (λ (less : m.address < n.address). omega (arith, less)) (λ (same : (m.address ≡ n.address) × (m.prefix ≤ n.prefix)). omega (arith, same.0)) most
+address_up_to m n most = ⊎_elim (λ (less : m.address < n.address). omega (arith, less))
+    (λ (same : (m.address ≡ n.address) × (m.prefix ≤ n.prefix)). omega (arith, same.0)) most
 
 -- ---- the last block that does not come after an address
 
-pub none_near : {V : Type 0} (w x : ℕ) (t : FinMap network_cmp V) → HasOnlyBlocks w t → NoneUpTo t (block_at w x w) → NoneHolds w t x
+pub none_near : {V : Type 0} (w x : ℕ) (t : FinMap network_cmp V) → HasOnlyBlocks w t → NoneUpTo t (block_at w x w)
+    → NoneHolds w t x
 none_near w x t blocks none n stored holds =
     let key = blocks n stored in
     none n stored (up_to_address w x n key.network key.block holds)
@@ -66,7 +65,8 @@ none_above_shared w x c k t blocks last shared n stored beyond holds =
     let lower : n.address ≤ k.address = address_up_to n k (last.2 n stored upper) in
     let most : k.address ≤ x = omega (arith, address_up_to k (block_at w x w) last.1, whole w x) in
     let ends = within_member w n x holds in
-    let inside : Member w n k.address = member_within w n key.network k.address (omega (arith, lower, key.block)) (omega (arith, most, ends.1)) in
+    let inside : Member w n k.address = member_within w n key.network k.address (omega (arith, lower, key.block))
+    (omega (arith, most, ends.1)) in
     shared n.prefix beyond key.network.prefix_fits
     (inside.0, inside.1 ∙ sym holds.1 ∙ ap (λ a. a / block_size w n.prefix) (sym (whole w x)))
 
@@ -85,7 +85,8 @@ last_is_longest w x k v t blocks last found here = record {
   longer n stored beyond holds =
       let key = blocks n stored in
       let near = blocks k last.0 in
-      let inside : Subnet w n k = subnet_from w n k key.network (omega (arith, beyond)) (shares_address w n k x (omega (arith, beyond)) key.network near.network holds here) in
+      let inside : Subnet w n k = subnet_from w n k key.network (omega (arith, beyond))
+      (shares_address w n k x (omega (arith, beyond)) key.network near.network holds here) in
       let after : IsNetworkAtMost k n = subnet_after w k n near.network key.network near.block key.block inside in
       let upper : IsNetworkAtMost n k = last.2 n stored (up_to_address w x n key.network key.block holds) in
       let from : k.address ≤ n.address = address_up_to k n after in

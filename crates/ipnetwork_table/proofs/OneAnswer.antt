@@ -1,13 +1,5 @@
 -- A look-up has exactly one result.
-use Rattle.std.proofs.Common.{◌≡◌, ℕ, zero, suc, ◌-◌, ◌^◌, ◌<◌, ◌≤◌, Option, Some, None, sym, refl, ap, subst, ◌∙◌, arith, ⊎_elim, is_some}
-use Rattle.std.specs.Prelude.{IsSome}
-use Rattle.std.specs.FinMap.{FinMap, get}
-use Rattle.std.proofs.lemmas.Bool.{cases_lt}
-use Rattle.ipnetwork_family.specs.Network.{Network, network_cmp, block_at}
-use Rattle.ipnetwork_family.proofs.BlocksAt.{same_block}
-use Rattle.ipnetwork_table.specs.Laws.{BlocksOfAnyWidthThatMeet}
-use Rattle.ipnetwork_table.specs.Table.{HasOnlyBlocks, HasNoHostBits, IsLongest, found_by_pair, Finds, Answers}
-use Rattle.ipnetwork_table.specs.Private.Nearest.{NoneAbove}
+use Rattle.ipnetwork_table.proofs.Words.{◌≡◌, ℕ, zero, suc, ◌-◌, ◌^◌, ◌<◌, ◌≤◌, Option, Some, None, sym, refl, ap, subst, ◌∙◌, arith, ⊎_elim, is_some, IsSome, FinMap, get, cases_lt, Network, network_cmp, block_at, same_block, BlocksOfAnyWidthThatMeet, HasOnlyBlocks, HasNoHostBits, IsLongest, found_by_pair, Finds, Answers, NoneAbove}
 use Rattle.ipnetwork_table.proofs.Listing.{same_value}
 use Rattle.ipnetwork_table.proofs.Longest.{none_above_width, none_above_next, none_at_all, longest_here}
 
@@ -30,7 +22,8 @@ module _ {V : Type 0} (w : ℕ) (t : FinMap network_cmp V) (x : ℕ) (blocks : H
         | Some v ↦ λ found. (Some (block_at w x (suc p), v), longest_here w t x (suc p) _ v above fits refl found)
         | None ↦ λ none.
             let next : suc p - 1 ≡ p = omega arith in
-            search_from fits p (subst (NoneAbove w t x) next (none_above_next w t x (suc p) blocks above none (omega arith)))
+            search_from fits p (subst (NoneAbove w t x) next
+            (none_above_next w t x (suc p) blocks above none (omega arith)))
       ] refl
 
   pub answer_exists : Found
@@ -51,12 +44,14 @@ module _ {V : Type 0} (w : ℕ) (t : FinMap network_cmp V) (x : ℕ) (blocks : H
       let shorter : d.0.prefix ≤ e.0.prefix = there.longest d.0 (is_stored d.0 d.1 here) here.holds in
       let longer : e.0.prefix ≤ d.0.prefix = here.longest e.0 (is_stored e.0 e.1 there) there.holds in
       let same : d.0 ≡ e.0 =
-      blocks_meet w d.0 e.0 x (blocks d.0 (is_stored d.0 d.1 here)) (blocks e.0 (is_stored e.0 e.1 there)) (omega (arith, shorter, longer)) here.holds there.holds in
+      blocks_meet w d.0 e.0 x (blocks d.0 (is_stored d.0 d.1 here)) (blocks e.0 (is_stored e.0 e.1 there))
+      (omega (arith, shorter, longer)) here.holds there.holds in
       let value : d.1 ≡ e.1 = same_value d.1 e.1 (sym here.stored ∙ ap (get t) same ∙ there.stored) in
       λ i. Some (same i, value i)
 
 -- the result of a look-up, with its block converted to a network
-pub answers_by_pair : {N V : Type 0} (pair : N → Network) (w : ℕ) (t : FinMap network_cmp V) (x : ℕ) (found : Option (N × V))
+pub answers_by_pair : {N V : Type 0} (pair : N → Network) (w : ℕ) (t : FinMap network_cmp V) (x : ℕ)
+    (found : Option (N × V))
     → Finds pair w t x found → Answers w t x (found_by_pair pair found)
 answers_by_pair pair w t x None h = h
 answers_by_pair pair w t x (Some f) h = h

@@ -1,21 +1,20 @@
 -- IPv4: this library's grammar and std's spell the same octets, and both print the same texts.
-use Rattle.std.proofs.Common.{◌≡◌, ℕ, List, [], ◌∷◌, length, decimal, refl, ◌∙◌, arith, lit≤, append_assoc}
-use Rattle.std.specs.List.{join_with_byte, AllZip}
-use Rattle.std.specs.Int.Digits.{number_from_digits}
-use Rattle.std.specs.Net.Text.{ipv4_text}
-use Rattle.std.specs.Net.Grammar.{IsDotted}
-use Rattle.ipnetwork_addr.specs.Texts.{dot}
-use Rattle.ipnetwork_addr.specs.Digits.{octets_of}
-use Rattle.ipnetwork_addr.specs.Ipv4Text.{IsOctet, NamesV4, canonical_v4}
+use Rattle.ipnetwork_witness.proofs.Words.{◌≡◌, ℕ, List, [], ◌∷◌, length, decimal, refl, ◌∙◌, arith, lit≤, append_assoc, join_with_byte, AllZip, number_from_digits, ipv4_text, IsDotted, dot, octets_of, IsOctet, NamesV4, canonical_v4}
 use Rattle.ipnetwork_witness.proofs.Bridge.{Bridge}
 
-spells : (text : List ℕ) (parts : List (List ℕ)) (octets : List ℕ) → text ≡ join_with_byte dot parts → AllZip IsOctet parts octets → length octets ≡ 4 → IsDotted text octets
+spells : (text : List ℕ) (parts : List (List ℕ)) (octets : List ℕ) → text ≡ join_with_byte dot parts
+    → AllZip IsOctet parts octets → length octets ≡ 4 → IsDotted text octets
 spells text (p ∷ q ∷ r ∷ s ∷ []) (a ∷ b ∷ c ∷ d ∷ []) spelled named four = record {
   a = a;
   b = b;
   c = c;
   d = d;
-  fit = (omega (arith, named.0.0), omega (arith, named.1.0.0), omega (arith, named.1.1.0.0), omega (arith, named.1.1.1.0.0));
+  fit = (
+    omega (arith, named.0.0),
+    omega (arith, named.1.0.0),
+    omega (arith, named.1.1.0.0),
+    omega (arith, named.1.1.1.0.0),
+  );
   value = refl;
   spelled = spelled ∙ rw (named.0.1, named.1.0.1, named.1.1.0.1, named.1.1.1.0.1) (simp append_assoc);
 }
@@ -36,7 +35,10 @@ names text octets h = record {
   joined = record {
     parts = decimal h.a ∷ decimal h.b ∷ decimal h.c ∷ decimal h.d ∷ [];
     spelled = h.spelled ∙ simp append_assoc;
-    named = rw h.value ((omega (arith, h.fit.0), refl), ((omega (arith, h.fit.1), refl), ((omega (arith, h.fit.2), refl), ((omega (arith, h.fit.3), refl), tt))));
+    named = rw h.value (
+      (omega (arith, h.fit.0), refl),
+      ((omega (arith, h.fit.1), refl), ((omega (arith, h.fit.2), refl), ((omega (arith, h.fit.3), refl), tt))),
+    );
   };
   four = rw h.value refl;
   value = refl;
@@ -45,7 +47,8 @@ names text octets h = record {
 pub v4_bridge : Bridge 256 4 NamesV4 IsDotted
 v4_bridge = record {
   some = lit≤ tt;
-  to_spelled = λ text n h. (h.octets, spells text h.joined.parts h.octets h.joined.spelled h.joined.named h.four, h.value);
+  to_spelled = λ text n h.
+      (h.octets, spells text h.joined.parts h.octets h.joined.spelled h.joined.named h.four, h.value);
   to_named = names;
   fits = λ text ds h. rw h.value (refl, (h.fit.0, (h.fit.1, (h.fit.2, (h.fit.3, tt)))));
 }

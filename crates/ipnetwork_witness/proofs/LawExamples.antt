@@ -1,30 +1,13 @@
 -- What follows from the laws, and would not follow from weaker ones: for 192.0.2.1 (RFC 5737, section 3), for the last
 -- address, and for texts that are refused.
-use Rattle.std.proofs.Common.{◌≡◌, ℕ, ◌^◌, ◌-◌, ◌<◌, List, [], ◌∷◌, Some, None, Option, Result, refl, ap, sym, ◌∙◌, arith, lit<}
-use Rattle.std.specs.Prelude.{◌↔◌, codes, Ok, Err}
-use Rattle.std.proofs.lemmas.Option.{none-some}
-use Rattle.std.specs.Fmt.{digits}
-use Rattle.std.specs.Net.Addr.{ipv4_octets, ipv6_segments}
-use Rattle.std.specs.Net.Grammar.{Parses, IsIpv4Text, IsIpv6Text, IsIpText}
-use Rattle.std.specs.Net.Text.{ipv4_text, ipv6_text, ip_text}
-use Rattle.std.specs.declared.net.ipv4_addr.Ipv4Addr.{Ipv4Addr}
-use Rattle.std.specs.declared.net.ipv6_addr.Ipv6Addr.{Ipv6Addr}
+use Rattle.ipnetwork_witness.proofs.Words.{◌≡◌, ℕ, ◌^◌, ◌-◌, List, Some, None, Option, refl, ap, arith, codes, Ok, Err, none-some, digits, ipv4_octets, ipv6_segments, Parses, IsIpv4Text, IsIpv6Text, IsIpText, ipv4_text, ipv6_text, ip_text, Ipv4Addr, Ipv6Addr, IpAddr, V4, V6, NamesIp, FitsIp, canonical_ip, canonical_v6, v6_of, gap_below, NamesV4, canonical_v4, NamesV6, Reads, v4_computed, v6_computed, Agree, SameV4, SameV6, SameIp}
+use Rattle.std.proofs.Common.{Result}
+use Rattle.std.specs.Prelude.{◌↔◌}
 use Rattle.std.specs.declared.net.ip_addr.IpAddr as std
 use Rattle.std.specs.declared.net.ip_addr.IpAddr.TheVariants as std_family
 use Rattle.std.specs.declared.net.parser.AddrParseError as std_error
 use Rattle.ipnetwork_addr.specs.declared.error.AddrParseError as error
 use Rattle.ipnetwork_addr.specs.declared.error.AddrParseError.TheVariants as kinds
-use Rattle.ipnetwork_addr.specs.declared.ip.IpAddr.{IpAddr}
-use Rattle.ipnetwork_addr.specs.declared.ip.IpAddr.TheVariants.{V4, V6}
-use Rattle.ipnetwork_addr.specs.Either.{NamesIp, FitsIp, canonical_ip}
-use Rattle.ipnetwork_addr.specs.Computed.Ipv4Text.{v4_of}
-use Rattle.ipnetwork_addr.specs.Computed.Ipv6Canonical.{canonical_v6}
-use Rattle.ipnetwork_addr.specs.Computed.Ipv6Text.{v6_of, gap_below}
-use Rattle.ipnetwork_addr.specs.Ipv4Text.{NamesV4, canonical_v4}
-use Rattle.ipnetwork_addr.specs.Ipv6Text.{NamesV6}
-use Rattle.ipnetwork_addr.specs.Reading.{Reads}
-use Rattle.ipnetwork_addr.proofs.ComputedReading.{v4_computed, v6_computed}
-use Rattle.ipnetwork_witness.specs.Agreement.{Agree, SameV4, SameV6, SameIp}
 
 abbrev number : Option ℕ → ℕ
 number (Some address) = address
@@ -49,7 +32,8 @@ pub std_reads_no_other_v4 : V4NamesAgree → (theirs : Ipv4Addr) → SameV4 0xc0
 unfolding digits
 std_reads_no_other_v4 law theirs same spelled =
     let named = (law (codes "192.0.2.1") 0xc0000202 theirs same).1 spelled in
-    let e : 0xc0000201 ≡ 0xc0000202 = ap number ((v4_computed (codes "192.0.2.1") 0xc0000202).0 named) in omega (arith, e)
+    let e : 0xc0000201 ≡ 0xc0000202 = ap number ((v4_computed (codes "192.0.2.1") 0xc0000202).0 named) in
+    omega (arith, e)
 
 abbrev V6NamesAgree : Type 0
 V6NamesAgree = (text : List ℕ) (ours : ℕ) (theirs : Ipv6Addr) → SameV6 ours theirs
@@ -84,7 +68,8 @@ pub std_takes_no_leading_zero
     → (theirs : Ipv4Addr) → ¬ (IsIpv4Text (codes "192.0.2.01") theirs)
 unfolding digits
 std_takes_no_leading_zero law theirs spelled =
-    let shared = law (codes "192.0.2.01") theirs spelled in none-some shared.0 ((v4_computed (codes "192.0.2.01") shared.0).0 shared.2)
+    let shared = law (codes "192.0.2.01") theirs spelled in
+    none-some shared.0 ((v4_computed (codes "192.0.2.01") shared.0).0 shared.2)
 
 pub std_takes_no_second_gap
     : ((text : List ℕ) (theirs : Ipv6Addr) → IsIpv6Text text theirs
@@ -92,7 +77,8 @@ pub std_takes_no_second_gap
     → (theirs : Ipv6Addr) → ¬ (IsIpv6Text (codes "1::2::3") theirs)
 unfolding digits v6_of gap_below
 std_takes_no_second_gap law theirs spelled =
-    let shared = law (codes "1::2::3") theirs spelled in none-some shared.0 ((v6_computed (codes "1::2::3") shared.0).0 shared.2)
+    let shared = law (codes "1::2::3") theirs spelled in
+    none-some shared.0 ((v6_computed (codes "1::2::3") shared.0).0 shared.2)
 
 -- std accepts a text that names an address here
 pub std_has_the_address
@@ -101,7 +87,8 @@ pub std_has_the_address
     → (theirs : Ipv4Addr) × IsIpv4Text (codes "255.255.255.255") theirs
 unfolding digits
 std_has_the_address law =
-    let shared = law (codes "255.255.255.255") (2 ^ 32 - 1) ((v4_computed (codes "255.255.255.255") (2 ^ 32 - 1)).1 refl) in
+    let shared = law (codes "255.255.255.255") (2 ^ 32 - 1)
+    ((v4_computed (codes "255.255.255.255") (2 ^ 32 - 1)).1 refl) in
     (shared.0, shared.2)
 
 -- no text names an address that is too large for its family

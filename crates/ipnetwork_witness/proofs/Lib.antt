@@ -5,6 +5,8 @@ pub mod Colons
 pub mod Digits
 pub mod Dotted
 pub mod HexText
+pub mod Known
 pub mod LawExamples
 pub mod PrintedV6
 pub mod SameAddresses
+pub mod Words

@@ -1,19 +1,7 @@
 -- IPv6: std prints an address as its canonical text.
-use Rattle.std.proofs.Common.{◌≡◌, ◌↔◌, ℕ, ◌+◌, ◌-◌, ◌/◌, ◌%◌, ◌^◌, ◌<◌, ◌≤◌, true≢false, List, [], ◌∷◌, ◌++◌, length, take, drop, replicate, get_or, refl, sym, ap, ap₂, ◌∙◌, arith, length-take-le, length-drop, get_or-drop}
-use Rattle.std.proofs.lemmas.Bool.{cond_both, ltb-true, ltb-false}
-use Rattle.std.proofs.lemmas.Grind.{same_number_lists}
-use Rattle.std.proofs.lemmas.List.{length-replicate, get_or-take, get_or-replicate}
-use Rattle.std.proofs.lemmas.Slice.Eq.{bytes_eq-Decides}
-use Rattle.std.proofs.NetLemmas.Texts.{IsZeroRun-longest_zero_run, longest_zero_run_first}
+use Rattle.ipnetwork_witness.proofs.Words.{◌≡◌, ◌↔◌, ℕ, ◌+◌, ◌-◌, ◌/◌, ◌%◌, ◌^◌, ◌<◌, ◌≤◌, true≢false, List, [], ◌∷◌, ◌++◌, length, take, drop, replicate, get_or, refl, sym, ap, ap₂, ◌∙◌, arith, length-take-le, length-drop, get_or-drop, cond_both, ltb-true, ltb-false, same_number_lists, length-replicate, get_or-take, get_or-replicate, bytes_eq-Decides, IsZeroRun-longest_zero_run, longest_zero_run_first, number_from_digits, AllBelowBase, ipv4_text, ipv6_text, hex_groups_text, longest_zero_run, colon, octets_of, segments_of, IsMapped, IsZeroRun, IsGap, IsCanonicalV6, Mapped, Gap, Whole, canonical_v6, fit_take, fit_drop, segments_fit}
 use Rattle.std.proofs.NetLemmas.Texts as std_runs
-use Rattle.std.specs.Int.Digits.{number_from_digits, AllBelowBase}
 use Rattle.std.specs.Net.Addr as std_addresses
-use Rattle.std.specs.Net.Text.{ipv4_text, ipv6_text, hex_groups_text, longest_zero_run}
-use Rattle.ipnetwork_addr.specs.Texts.{colon}
-use Rattle.ipnetwork_addr.specs.Digits.{octets_of, segments_of}
-use Rattle.ipnetwork_addr.specs.Ipv6Canonical.{IsMapped, IsZeroRun, IsGap, IsCanonicalV6, Mapped, Gap, Whole}
-use Rattle.ipnetwork_addr.specs.Computed.Ipv6Canonical.{canonical_v6}
-use Rattle.ipnetwork_addr.proofs.Ipv6Printed.{fit_take, fit_drop, segments_fit}
 use Rattle.ipnetwork_witness.proofs.Dotted.{v4_prints}
 use Rattle.ipnetwork_witness.proofs.HexText.{same_groups}
 
@@ -21,12 +9,14 @@ use Rattle.ipnetwork_witness.proofs.HexText.{same_groups}
 
 run_to_std : (groups : List ℕ) (i n : ℕ) → IsZeroRun groups i n → std_runs.IsZeroRun groups i n
 run_to_std groups i n run =
-    let long : length (take n (drop i groups)) ≡ n = length-take-le n (drop i groups) (omega (arith, run.there, length-drop i groups)) in (
+    let long : length (take n (drop i groups)) ≡ n =
+    length-take-le n (drop i groups) (omega (arith, run.there, length-drop i groups)) in (
       run.there,
       same_number_lists (take n (drop i groups)) (replicate n 0) (long ∙ sym (length-replicate n 0))
           (λ k below.
           let within : k < n = omega (arith, below, long) in
-          get_or-take n (drop i groups) k 0 within ∙ get_or-drop i groups k 0 ∙ run.zero_groups (i + k) (omega arith) (omega (arith, within)) ∙ sym (get_or-replicate n k 0 0 within)),
+          get_or-take n (drop i groups) k 0 within ∙ get_or-drop i groups k 0
+          ∙ run.zero_groups (i + k) (omega arith) (omega (arith, within)) ∙ sym (get_or-replicate n k 0 0 within)),
     )
 
 run_from_std : (groups : List ℕ) (i n : ℕ) → std_runs.IsZeroRun groups i n → IsZeroRun groups i n
@@ -42,7 +32,8 @@ run_from_std groups i n run = record {
       ∙ get_or-replicate n k 0 0 within;
 }
 
-gap_of : (groups : List ℕ) → 1 < (longest_zero_run groups).1 → IsGap groups (longest_zero_run groups).0 (longest_zero_run groups).1
+gap_of : (groups : List ℕ) → 1 < (longest_zero_run groups).1
+    → IsGap groups (longest_zero_run groups).0 (longest_zero_run groups).1
 gap_of groups several = record {
   several = omega (arith, several);
   zeros = run_from_std groups _ _ (IsZeroRun-longest_zero_run groups);
@@ -51,7 +42,8 @@ gap_of groups several = record {
 }
 
 no_gap : (groups : List ℕ) → (longest_zero_run groups).1 ≤ 1 → (i n : ℕ) → ¬ (IsGap groups i n)
-no_gap groups few i n gap = omega (arith, few, gap.several, (longest_zero_run_first groups i n (run_to_std groups i n gap.zeros)).0)
+no_gap groups few i n gap =
+    omega (arith, few, gap.several, (longest_zero_run_first groups i n (run_to_std groups i n gap.zeros)).0)
 
 -- ---- the groups of an address
 
@@ -96,12 +88,15 @@ printed n fits =
     let decides = bytes_eq-Decides (take 6 groups) mark in
     let same = λ (gs : List ℕ) (h : AllBelowBase (2 ^ 16) gs). sym (same_groups gs h) in
     cond_both _ _ _ (λ text. IsCanonicalV6 text n)
-    (λ is. Mapped (mapped_of_mark n fits (decides.0 is)) (ap (λ t. (colon ∷ colon ∷ 102 ∷ 102 ∷ 102 ∷ 102 ∷ colon ∷ []) ++ t) (sym (v4_prints (n % 2 ^ 32) ∙ ap ipv4_text (low_octets n)))))
+    (λ is. Mapped (mapped_of_mark n fits (decides.0 is)) (ap (λ t. (colon ∷ colon ∷ 102 ∷ 102 ∷ 102 ∷ 102 ∷ colon ∷ [])
+    ++ t) (sym (v4_prints (n % 2 ^ 32) ∙ ap ipv4_text (low_octets n)))))
     (λ not.
     let other : ¬ (IsMapped n) = λ mapped. true≢false (sym (decides.1 (mark_of_mapped n mapped)) ∙ not) in
     cond_both _ _ _ (λ text. IsCanonicalV6 text n)
-    (λ several. Gap other run.0 run.1 (gap_of groups (ltb-true 1 run.1 several)) (ap₂ (λ x y. x ++ (colon ∷ colon ∷ []) ++ y) (same _ (fit_take run.0 groups fit)) (same _ (fit_drop (run.0 + run.1) groups fit))))
+    (λ several. Gap other run.0 run.1 (gap_of groups (ltb-true 1 run.1 several)) (ap₂ (λ x y. x ++ (colon ∷ colon ∷ [])
+    ++ y) (same _ (fit_take run.0 groups fit)) (same _ (fit_drop (run.0 + run.1) groups fit))))
     (λ few. Whole other (no_gap groups (ltb-false 1 run.1 few)) (same groups fit)))
 
-pub v6_prints : ((text : List ℕ) (address : ℕ) → IsCanonicalV6 text address ↔ (text ≡ canonical_v6 address)) → (n : ℕ) → n < 2 ^ 128 → canonical_v6 n ≡ ipv6_text (segments_of n)
+pub v6_prints : ((text : List ℕ) (address : ℕ) → IsCanonicalV6 text address ↔ (text ≡ canonical_v6 address)) → (n : ℕ)
+    → n < 2 ^ 128 → canonical_v6 n ≡ ipv6_text (segments_of n)
 v6_prints one_text n fits = sym ((one_text (ipv6_text (segments_of n)) n).0 (printed n fits))

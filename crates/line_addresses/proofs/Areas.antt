@@ -1,7 +1,5 @@
 -- Areas, for examples.
-use Rattle.std.proofs.Common.{ℕ, List}
-use Rattle.line_addresses.specs.declared.area.Area.{Area}
-use Rattle.line_addresses.specs.declared.area.Part.{Part}
+use Rattle.line_addresses.proofs.Words.{ℕ, List, Area, Part}
 use Rattle.line_addresses.specs.declared.area.Part.TheVariants as parts
 use Rattle.line_addresses.specs.declared.area.Pick.TheVariants as picks
 

@@ -1,13 +1,11 @@
 -- The bytes of address texts, as a test.
-use Rattle.std.proofs.Common.{◌≡◌, ℕ, ◌≤◌, ◌==◌, ◌||◌, ◌⊎◌, Bool, true, false, refl, arith, inl, inr}
-use Rattle.std.specs.Int.{is_in_range}
-use Rattle.std.proofs.lemmas.Bool.{eqb-true}
-use Rattle.std.proofs.lemmas.Bool.Decides.{nat_tests}
-use Rattle.ipnetwork_addr.specs.Texts.{IsAddressByte, Digit, UpperHex, LowerHex, Dot, Colon}
+use Rattle.line_addresses.proofs.Words.{◌≡◌, ℕ, ◌≤◌, ◌==◌, ◌⊎◌, Bool, true, false, refl, arith, inl, inr, is_in_range, eqb-true, nat_tests, IsAddressByte, Digit, UpperHex, LowerHex, Dot, Colon}
+use Rattle.std.proofs.Common.{◌||◌}
 
 -- whether a byte may occur in an address text
 abbrev pub is_address_byte : ℕ → Bool
-is_address_byte byte = is_in_range 48 57 byte || is_in_range 65 70 byte || is_in_range 97 102 byte || byte == 46 || byte == 58
+is_address_byte byte = is_in_range 48 57 byte || is_in_range 65 70 byte || is_in_range 97 102
+    byte || byte == 46 || byte == 58
 
 pub passes : (byte : ℕ) → IsAddressByte byte → is_address_byte byte ≡ true
 passes byte (Digit low high) = grind (arith, nat_tests)
@@ -23,7 +21,8 @@ either_true false b e = inr e
 in_range : (low high byte : ℕ) → is_in_range low high byte ≡ true → (low ≤ byte) × (byte ≤ high)
 in_range low high byte e = (grind (arith, nat_tests), grind (arith, nat_tests))
 
-by_letters : (byte : ℕ) → (is_in_range 48 57 byte || is_in_range 65 70 byte || is_in_range 97 102 byte) ≡ true → IsAddressByte byte
+by_letters : (byte : ℕ) → (is_in_range 48 57 byte || is_in_range 65 70 byte || is_in_range 97 102 byte) ≡ true
+    → IsAddressByte byte
 by_letters byte e = elim (either_true (is_in_range 48 57 byte || is_in_range 65 70 byte) (is_in_range 97 102 byte) e) [
   | inl more ↦ elim (either_true (is_in_range 48 57 byte) (is_in_range 65 70 byte) more) [
     | inl digit ↦ let r = in_range 48 57 byte digit in Digit r.0 r.1
@@ -33,10 +32,12 @@ by_letters byte e = elim (either_true (is_in_range 48 57 byte || is_in_range 65 
 ]
 
 pub passed : (byte : ℕ) → is_address_byte byte ≡ true → IsAddressByte byte
-passed byte e = elim (either_true (is_in_range 48 57 byte || is_in_range 65 70 byte || is_in_range 97 102 byte || byte == 46) (byte == 58) e) [
-  | inl more ↦ elim (either_true (is_in_range 48 57 byte || is_in_range 65 70 byte || is_in_range 97 102 byte) (byte == 46) more) [
-    | inl letter ↦ by_letters byte letter
-    | inr dot ↦ Dot (eqb-true byte 46 dot)
-  ]
-  | inr colon ↦ Colon (eqb-true byte 58 colon)
-]
+passed byte e = elim (either_true
+    (is_in_range 48 57 byte || is_in_range 65 70 byte || is_in_range 97 102 byte || byte == 46) (byte == 58) e) [
+      | inl more ↦ elim (either_true (is_in_range 48 57 byte || is_in_range 65 70 byte || is_in_range 97 102 byte)
+          (byte == 46) more) [
+            | inl letter ↦ by_letters byte letter
+            | inr dot ↦ Dot (eqb-true byte 46 dot)
+          ]
+      | inr colon ↦ Colon (eqb-true byte 58 colon)
+    ]

@@ -1,13 +1,5 @@
 -- Texts that would expose a misreading of the definitions. Each of these computes.
-use Rattle.std.proofs.Common.{◌≡◌, ℕ, List, [], ◌∷◌, ◌++◌, refl}
-use Rattle.std.specs.Prelude.{codes, map, filter}
-use Rattle.std.specs.List.{range_with_len}
-use Rattle.std.specs.Fmt.{digits}
-use Rattle.ipnetwork_addr.specs.Computed.Ipv6Text.{v6_of, gap_below}
-use Rattle.ipnetwork_addr.specs.declared.ip.IpAddr.TheVariants.{V4, V6}
-use Rattle.line_addresses.specs.Addresses.{Spelled, address_of, before_port, address_in, addresses_of}
-use Rattle.line_addresses.specs.LineRuns.{is_run_byte}
-use Rattle.line_addresses.specs.Words.{is_blank, words_of}
+use Rattle.line_addresses.proofs.Words.{◌≡◌, ℕ, List, [], ◌∷◌, ◌++◌, refl, codes, map, filter, range_with_len, digits, v6_of, gap_below, V4, V6, Spelled, address_of, before_port, address_in, addresses_of, is_run_byte, is_blank, words_of}
 
 -- the address 10.1.1.1
 abbrev ten : List Spelled
@@ -17,16 +9,19 @@ ten = record { text = codes "10.1.1.1"; address = V4 0x0a010101 } ∷ []
 abbrev quoted : List ℕ
 quoted = 34 ∷ codes "10.1.1.1" ++ 34 ∷ []
 
-pub shapes : map addresses_of (codes "10.1.1.1:51234" ∷ codes "[10.1.1.1]" ∷ quoted ∷ codes "SRC=10.1.1.1 x" ∷ codes "10.1.1.1," ∷ codes "to 10.1.1.1." ∷ codes "10.1.1.1: no" ∷ [])
+pub shapes : map addresses_of (codes "10.1.1.1:51234" ∷ codes "[10.1.1.1]" ∷ quoted ∷ codes "SRC=10.1.1.1 x"
+    ∷ codes "10.1.1.1," ∷ codes "to 10.1.1.1." ∷ codes "10.1.1.1: no" ∷ [])
     ≡ ten ∷ ten ∷ ten ∷ ten ∷ ten ∷ ten ∷ ten ∷ []
 unfolding address_in before_port address_of digits v6_of gap_below
 shapes = refl
 
-pub brackets_and_port : addresses_of (codes "[2001:db8::1]:443") ≡ record { text = codes "2001:db8::1"; address = V6 0x20010db8000000000000000000000001 } ∷ []
+pub brackets_and_port : addresses_of (codes "[2001:db8::1]:443")
+    ≡ record { text = codes "2001:db8::1"; address = V6 0x20010db8000000000000000000000001 } ∷ []
 unfolding address_in before_port address_of digits v6_of gap_below
 brackets_and_port = refl
 
-pub no_addresses : map addresses_of (codes "v10.1.2.3x" ∷ codes "1.2.3.4.5" ∷ codes "12:34:56" ∷ codes "00:1b:44:11:3a:b7" ∷ codes "da39a3ee5e6b" ∷ codes "10.1.1.1:123456" ∷ codes "10.1.1.1.." ∷ codes "_10.1.1.1" ∷ [])
+pub no_addresses : map addresses_of (codes "v10.1.2.3x" ∷ codes "1.2.3.4.5" ∷ codes "12:34:56" ∷ codes
+    "00:1b:44:11:3a:b7" ∷ codes "da39a3ee5e6b" ∷ codes "10.1.1.1:123456" ∷ codes "10.1.1.1.." ∷ codes "_10.1.1.1" ∷ [])
     ≡ [] ∷ [] ∷ [] ∷ [] ∷ [] ∷ [] ∷ [] ∷ [] ∷ []
 unfolding address_in before_port address_of digits v6_of gap_below
 no_addresses = refl
@@ -35,7 +30,8 @@ pub words : words_of (codes " Nov  3 10:00 ") ≡ codes "Nov" ∷ codes "3" ∷ 
 words = refl
 
 -- of the 256 bytes, the run bytes, and the blanks between words: a tab and a space
-pub run_bytes : filter is_run_byte (range_with_len 0 256) ≡ codes ".0123456789:ABCDEFGHIJKLMNOPQRSTUVWXYZ_abcdefghijklmnopqrstuvwxyz"
+pub run_bytes : filter is_run_byte (range_with_len 0 256) ≡ codes
+    ".0123456789:ABCDEFGHIJKLMNOPQRSTUVWXYZ_abcdefghijklmnopqrstuvwxyz"
 run_bytes = refl
 
 pub blanks : filter is_blank (range_with_len 0 256) ≡ 9 ∷ 32 ∷ []

@@ -1,19 +1,10 @@
 -- The address of a text, by the laws of address texts.
-use Rattle.std.proofs.Common.{◌≡◌, ◌↔◌, ℕ, zero, suc, ◌-◌, Bool, true, false, cond, List, ◌∷◌, length, take, Option, None, Some, refl, ap, ◌∙◌}
-use Rattle.std.specs.Prelude.{Ok}
-use Rattle.std.specs.List.{AllByRecursion, position_or_len, after_first}
-use Rattle.ipnetwork_addr.specs.Computed.Reading.{answer_from}
-use Rattle.ipnetwork_addr.specs.Either.{NamesIp}
-use Rattle.ipnetwork_addr.specs.Ipv4Text.{NamesV4}
-use Rattle.ipnetwork_addr.specs.Ipv6Text.{NamesV6}
-use Rattle.ipnetwork_addr.specs.Texts.{IsAddressByte}
-use Rattle.ipnetwork_addr.specs.declared.ip.IpAddr.{IpAddr}
-use Rattle.ipnetwork_addr.specs.declared.ip.IpAddr.TheVariants.{V4, V6}
-use Rattle.line_addresses.specs.Addresses.{address_of, with_text, spelled, is_colon, is_port, before_port, address_in}
+use Rattle.line_addresses.proofs.Words.{◌≡◌, ◌↔◌, ℕ, zero, suc, ◌-◌, Bool, true, false, cond, List, ◌∷◌, length, take, Option, None, Some, refl, ap, ◌∙◌, Ok, AllByRecursion, position_or_len, after_first, answer_from, NamesIp, NamesV4, NamesV6, IsAddressByte, IpAddr, V4, V6, address_of, with_text, spelled, is_colon, is_port, before_port, address_in}
 use Rattle.line_addresses.proofs.Shown.{nothing_named, no_rest, left}
 
 -- what the reader returns is what the text names
-pub named_by_answer : {E : Type 0} (error : E) (found : Option IpAddr) (address : IpAddr) → Ok address ≡ answer_from error found → found ≡ Some address
+pub named_by_answer : {E : Type 0} (error : E) (found : Option IpAddr) (address : IpAddr)
+    → Ok address ≡ answer_from error found → found ≡ Some address
 named_by_answer error None address e = cc
 named_by_answer error (Some other) address e = cc
 
@@ -30,9 +21,11 @@ module _ (named : (text : List ℕ) (address : IpAddr) → NamesIp text address 
   bytes text (V6 address) h = v6_bytes text address h
 
   none_begun : (byte : ℕ) (text : List ℕ) → ¬ (IsAddressByte byte) → address_of (byte ∷ text) ≡ None
-  none_begun byte text other = none_named (address_of (byte ∷ text)) (λ address e. other ((bytes (byte ∷ text) address ((named (byte ∷ text) address).1 e)).0))
+  none_begun byte text other = none_named (address_of (byte ∷ text))
+      (λ address e. other ((bytes (byte ∷ text) address ((named (byte ∷ text) address).1 e)).0))
 
-  none_taken : (count : ℕ) (byte : ℕ) (text : List ℕ) → ¬ (IsAddressByte byte) → address_of (take count (byte ∷ text)) ≡ None
+  none_taken : (count : ℕ) (byte : ℕ) (text : List ℕ) → ¬ (IsAddressByte byte)
+      → address_of (take count (byte ∷ text)) ≡ None
   none_taken zero byte text other = nothing_named
   none_taken (suc count) byte text other = none_begun byte (take count text) other
 
@@ -48,5 +41,6 @@ module _ (named : (text : List ℕ) (address : IpAddr) → NamesIp text address 
 
   pub none_in : (byte : ℕ) (run : List ℕ) → ¬ (IsAddressByte byte) → address_in (byte ∷ run) ≡ None
   none_in byte run other =
-      left (byte ∷ run) (none_begun byte run other) (no_rest (byte ∷ run) (none_taken (length (byte ∷ run) - 1) byte run other))
+      left (byte ∷ run) (none_begun byte run other)
+      (no_rest (byte ∷ run) (none_taken (length (byte ∷ run) - 1) byte run other))
       ∙ none_before_port byte run other

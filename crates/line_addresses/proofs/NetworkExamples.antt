@@ -1,12 +1,5 @@
 -- Texts that would expose a misreading of the definitions of networks. Each of these computes.
-use Rattle.std.proofs.Common.{◌≡◌, List, [], ◌∷◌, refl}
-use Rattle.std.specs.Prelude.{codes, map, filter}
-use Rattle.std.specs.List.{range_with_len}
-use Rattle.std.specs.Fmt.{digits}
-use Rattle.ipnetwork_addr.specs.Computed.Ipv6Text.{v6_of, gap_below}
-use Rattle.ipnetwork_addr.specs.declared.ip.IpAddr.TheVariants.{V4, V6}
-use Rattle.line_addresses.specs.Addresses.{Spelled, address_of, before_port, address_in}
-use Rattle.line_addresses.specs.Networks.{is_stretch_byte, named_network, network_in, networks_of}
+use Rattle.line_addresses.proofs.Words.{◌≡◌, List, [], ◌∷◌, refl, codes, map, filter, range_with_len, digits, v6_of, gap_below, V4, V6, Spelled, address_of, before_port, address_in, is_stretch_byte, named_network, network_in, networks_of}
 
 -- 10.1.1.1 with a prefix length, and without one
 abbrev net : List Spelled
@@ -15,19 +8,24 @@ net = record { text = codes "10.1.1.1/24"; address = V4 0x0a010101 } ∷ []
 abbrev ten : List Spelled
 ten = record { text = codes "10.1.1.1"; address = V4 0x0a010101 } ∷ []
 
-pub networks : map networks_of (codes "10.1.1.1/24" ∷ codes "[10.1.1.1/24]" ∷ codes "SRC=10.1.1.1/24 x" ∷ codes "to 10.1.1.1/24." ∷ codes "10.1.1.1/24: no" ∷ []) ≡ net ∷ net ∷ net ∷ net ∷ net ∷ []
+pub networks : map networks_of (codes "10.1.1.1/24" ∷ codes "[10.1.1.1/24]" ∷ codes "SRC=10.1.1.1/24 x"
+    ∷ codes "to 10.1.1.1/24." ∷ codes "10.1.1.1/24: no" ∷ []) ≡ net ∷ net ∷ net ∷ net ∷ net ∷ []
 unfolding network_in named_network address_in before_port address_of digits v6_of gap_below
 networks = refl
 
 -- a text that is no network has its addresses, and the mask of a network is no address
-pub addresses : map networks_of (codes "10.1.1.1" ∷ codes "10.1.1.1:80" ∷ codes "10.1.1.1/33" ∷ codes "10.1.1.1/" ∷ codes "x/10.1.1.1/24" ∷ codes "/10.1.1.1" ∷ codes "10.1.1.1/24/7" ∷ codes "10.1.1.1/24:80" ∷ [])
+pub addresses : map networks_of (codes "10.1.1.1" ∷ codes "10.1.1.1:80" ∷ codes "10.1.1.1/33" ∷ codes "10.1.1.1/"
+    ∷ codes "x/10.1.1.1/24" ∷ codes "/10.1.1.1" ∷ codes "10.1.1.1/24/7" ∷ codes "10.1.1.1/24:80" ∷ [])
     ≡ ten ∷ ten ∷ ten ∷ ten ∷ ten ∷ ten ∷ ten ∷ ten ∷ []
 unfolding network_in named_network address_in before_port address_of digits v6_of gap_below
 addresses = refl
 
-pub mask : networks_of (codes "10.1.1.1/255.0.0.0, ::/0") ≡ record { text = codes "10.1.1.1/255.0.0.0"; address = V4 0x0a010101 } ∷ record { text = codes "::/0"; address = V6 0 } ∷ []
-unfolding network_in named_network address_in before_port address_of digits v6_of gap_below lib.Count.count_leading_zeros
+pub mask : networks_of (codes "10.1.1.1/255.0.0.0, ::/0") ≡ record
+    { text = codes "10.1.1.1/255.0.0.0"; address = V4 0x0a010101 } ∷ record { text = codes "::/0"; address = V6 0 } ∷ []
+unfolding network_in named_network address_in before_port address_of digits v6_of gap_below
+    lib.Count.count_leading_zeros
 mask = refl
 
-pub stretch_bytes : filter is_stretch_byte (range_with_len 0 256) ≡ codes "./0123456789:ABCDEFGHIJKLMNOPQRSTUVWXYZ_abcdefghijklmnopqrstuvwxyz"
+pub stretch_bytes : filter is_stretch_byte (range_with_len 0 256) ≡ codes
+    "./0123456789:ABCDEFGHIJKLMNOPQRSTUVWXYZ_abcdefghijklmnopqrstuvwxyz"
 stretch_bytes = refl

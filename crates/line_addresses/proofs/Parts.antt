@@ -1,11 +1,5 @@
 -- The parts of a line.
-use Rattle.std.proofs.Common.{◌≡◌, ℕ, zero, suc, ◌+◌, ◌-◌, ◌<◌, ◌==◌, List, [], ◌∷◌, ◌++◌, length, take, drop, None, refl, ap, ◌∙◌, arith}
-use Rattle.std.proofs.lemmas.Bool.{eq-eqb}
-use Rattle.std.proofs.lemmas.List.{drop-drop}
-use Rattle.std.specs.List.{slice_split}
-use Rattle.byte_search.specs.Bytes.{IsAbsent, IsNext}
-use Rattle.lines.proofs.BytesLemmas.{split_at, split_none, split_text, none_behind, first_behind}
-use Rattle.line_addresses.specs.Fields.{part_behind}
+use Rattle.line_addresses.proofs.Words.{◌≡◌, ℕ, zero, suc, ◌+◌, ◌-◌, ◌<◌, ◌==◌, List, [], ◌∷◌, ◌++◌, length, take, drop, None, refl, ap, ◌∙◌, arith, eq-eqb, drop-drop, slice_split, IsAbsent, IsNext, split_at, split_none, split_text, none_behind, first_behind, slice_get}
 
 -- the rest of a text from an index on: what comes before the next byte of this value, that byte, and what follows it
 pub rest_from : (byte : ℕ) (text : List ℕ) (from at : ℕ) → IsNext byte text from at
@@ -18,19 +12,23 @@ rest_from byte text from at next =
 
 -- the first part from an index on, and the parts after it
 pub parts_from : (byte : ℕ) (text : List ℕ) (from at : ℕ) → IsNext byte text from at
-    → slice_split (λ b. b == byte) (drop from text) ≡ take (at - from) (drop from text) ∷ slice_split (λ b. b == byte) (drop (at + 1) text)
+    → slice_split (λ b. b == byte) (drop from text) ≡ take (at - from) (drop from text)
+    ∷ slice_split (λ b. b == byte) (drop (at + 1) text)
 parts_from byte text from at next =
     ap (slice_split (λ b. b == byte)) (rest_from byte text from at next)
-    ∙ split_at byte (take (at - from) (drop from text)) (drop (at + 1) text) (eq-eqb byte byte refl) (first_behind byte text from at next).before
+    ∙ split_at byte (take (at - from) (drop from text)) (drop (at + 1) text) (eq-eqb byte byte refl)
+    (first_behind byte text from at next).before
 
-pub part_from : (byte : ℕ) (text : List ℕ) (from : ℕ) → IsAbsent byte text from (length text) → slice_split (λ b. b == byte) (drop from text) ≡ drop from text ∷ []
+pub part_from : (byte : ℕ) (text : List ℕ) (from : ℕ) → IsAbsent byte text from (length text)
+    → slice_split (λ b. b == byte) (drop from text) ≡ drop from text ∷ []
 part_from byte text from absent = split_none byte (drop from text) (none_behind byte text from absent)
 
 -- one part fewer
-pub one_part_less : (more : ℕ) (part : List ℕ) (parts : List (List ℕ)) → 0 < more → part_behind more (part ∷ parts) ≡ part_behind (more - 1) parts
+pub one_part_less : (more : ℕ) (part : List ℕ) (parts : List (List ℕ)) → 0 < more
+    → slice_get (part ∷ parts) more ≡ slice_get parts (more - 1)
 one_part_less zero part parts some = absurd (omega (arith, some))
-one_part_less (suc more) part parts some = ap (λ n. part_behind n parts) (omega arith)
+one_part_less (suc more) part parts some = ap (slice_get parts) (omega arith)
 
-pub no_more_parts : (more : ℕ) (part : List ℕ) → 0 < more → part_behind more (part ∷ []) ≡ None
+pub no_more_parts : (more : ℕ) (part : List ℕ) → 0 < more → slice_get (part ∷ []) more ≡ None
 no_more_parts zero part some = absurd (omega (arith, some))
 no_more_parts (suc more) part some = refl

@@ -1,13 +1,5 @@
 -- The address found in a run: that of its whole text, or of what comes before a mark.
-use Rattle.std.proofs.Common.{◌≡◌, ℕ, ◌-◌, ◌<◌, ◌==◌, Bool, true, false, cond, List, [], ◌∷◌, length, take, get_or, None, Some, refl, sym, ap, ◌∙◌, arith}
-use Rattle.std.specs.Fmt.{digits}
-use Rattle.std.proofs.Math.Seq.{take-length}
-use Rattle.std.proofs.lemmas.Bool.Decides.{nat_tests}
-use Rattle.ipnetwork_addr.specs.Computed.Ipv6Text.{v6_of, gap_below}
-use Rattle.ipnetwork_addr.specs.Texts.{IsAddressByte}
-use Rattle.ipnetwork_addr.specs.declared.ip.IpAddr.{IpAddr}
-use Rattle.line_addresses.specs.Addresses.{address_of, with_text, spelled, ends_with_mark, before_mark, before_port, or_else, address_in}
-use Rattle.line_addresses.specs.Private.LineRuns.{Shows}
+use Rattle.line_addresses.proofs.Words.{◌≡◌, ℕ, ◌-◌, ◌<◌, ◌==◌, Bool, true, false, cond, List, [], ◌∷◌, length, take, get_or, None, Some, refl, sym, ap, ◌∙◌, arith, digits, take-length, nat_tests, v6_of, gap_below, IsAddressByte, IpAddr, address_of, with_text, spelled, ends_with_mark, before_mark, before_port, or_else, address_in, Shows}
 
 -- an empty text names no address
 pub nothing_named : address_of [] ≡ None
@@ -27,11 +19,13 @@ shown_by_nothing [] e = nothing_shown
 shown_by_nothing (byte ∷ run) e = absurd (omega (arith, e))
 
 -- a run whose first byte occurs in no address text
-pub begun_by_other : ((byte : ℕ) (run : List ℕ) → ¬ (IsAddressByte byte) → address_in (byte ∷ run) ≡ None) → (run : List ℕ) → 0 < length run → ¬ (IsAddressByte (get_or run 0 0)) → address_in run ≡ None
+pub begun_by_other : ((byte : ℕ) (run : List ℕ) → ¬ (IsAddressByte byte) → address_in (byte ∷ run) ≡ None)
+    → (run : List ℕ) → 0 < length run → ¬ (IsAddressByte (get_or run 0 0)) → address_in run ≡ None
 begun_by_other law [] some other = absurd (omega (arith, some))
 begun_by_other law (byte ∷ run) some other = law byte run other
 
-pub whole : (run : List ℕ) (address : IpAddr) → address_of run ≡ Some address → Shows (address_in run) run address (length run)
+pub whole : (run : List ℕ) (address : IpAddr) → address_of run ≡ Some address
+    → Shows (address_in run) run address (length run)
 unfolding address_in
 whole run address named = record {
   within = omega arith;
@@ -39,7 +33,8 @@ whole run address named = record {
       ∙ ap (λ text. Some (record { text = text; address = address })) (sym (take-length run));
 }
 
-pub marked : (run : List ℕ) (address : IpAddr) → address_of run ≡ None → ends_with_mark run ≡ true → address_of (take (length run - 1) run) ≡ Some address
+pub marked : (run : List ℕ) (address : IpAddr) → address_of run ≡ None → ends_with_mark run ≡ true
+    → address_of (take (length run - 1) run) ≡ Some address
     → Shows (address_in run) run address (length run - 1)
 unfolding address_in
 marked run address none ends named = record {
@@ -63,4 +58,5 @@ no_rest run none = none_if (ends_with_mark run) (take (length run - 1) run) none
 pub left : (run : List ℕ) → address_of run ≡ None → before_mark run ≡ None → address_in run ≡ before_port run
 unfolding address_in
 left run none unmarked =
-    ap (λ found. or_else (with_text run found) (or_else (before_mark run) (before_port run))) none ∙ ap (λ found. or_else found (before_port run)) unmarked
+    ap (λ found. or_else (with_text run found) (or_else (before_mark run) (before_port run))) none
+    ∙ ap (λ found. or_else found (before_port run)) unmarked

@@ -1,16 +1,6 @@
 -- The network of a stretch.
-use Rattle.std.proofs.Common.{◌≡◌, ℕ, ◌-◌, ◌<◌, Bool, true, false, cond, not, List, ◌∷◌, length, take, None, Some, refl, sym, ap, ◌∙◌, arith, true≢false}
-use Rattle.std.specs.Prelude.{◌||◌, ◌&&◌, nat_lt}
-use Rattle.std.specs.List.{position_or_len}
-use Rattle.std.proofs.Math.Seq.{take-length}
-use Rattle.std.proofs.lemmas.Bool.{eq-eqb, ne_eqb}
-use Rattle.std.proofs.lemmas.List.Sums.{position_or_len_is}
-use Rattle.byte_search.specs.Bytes.{IsAbsent, IsNext}
-use Rattle.ipnetwork_addr.specs.declared.ip.IpAddr.{IpAddr}
-use Rattle.line_addresses.specs.Addresses.{ends_with_mark, or_else, with_text}
-use Rattle.line_addresses.specs.LineRuns.{is_run_byte}
-use Rattle.line_addresses.specs.Networks.{is_slash, is_stretch_byte, has_slash, named_network, spelled_network, network_before_mark, network_in}
-use Rattle.line_addresses.specs.Private.LineRuns.{Shows}
+use Rattle.line_addresses.proofs.Words.{◌≡◌, ℕ, ◌-◌, ◌<◌, Bool, true, false, cond, not, List, ◌∷◌, length, take, None, Some, refl, sym, ap, ◌∙◌, arith, true≢false, ◌||◌, nat_lt, position_or_len, take-length, eq-eqb, ne_eqb, position_or_len_is, IsAbsent, IsNext, IpAddr, ends_with_mark, or_else, with_text, is_run_byte, is_slash, is_stretch_byte, has_slash, named_network, spelled_network, network_before_mark, network_in, Shows}
+use Rattle.std.specs.Prelude.{◌&&◌}
 
 -- ---- the index of the first `/`
 
@@ -20,8 +10,10 @@ by_place text place = nat_lt 0 place && nat_lt place (length text)
 pub slash_at : (text : List ℕ) (at : ℕ) → IsNext 47 text 0 at → nat_lt 0 at ≡ has_slash text
 slash_at text at next =
     let place : position_or_len is_slash text ≡ at =
-    position_or_len_is is_slash text at 0 (omega (arith, next.within)) (λ k below. ne_eqb _ _ (next.between k (omega arith) below)) (λ below. eq-eqb _ _ next.there) in
-    within (nat_lt 0 at) (nat_lt at (length text)) (below_told at (length text) next.within) ∙ sym (ap (by_place text) place)
+    position_or_len_is is_slash text at 0 (omega (arith, next.within))
+    (λ k below. ne_eqb _ _ (next.between k (omega arith) below)) (λ below. eq-eqb _ _ next.there) in
+    within (nat_lt 0 at) (nat_lt at (length text)) (below_told at (length text) next.within)
+    ∙ sym (ap (by_place text) place)
   where
     within : (a b : Bool) → b ≡ true → a ≡ (a && b)
     within true b e = sym e
@@ -33,7 +25,8 @@ slash_at text at next =
 pub no_slash : (text : List ℕ) → IsAbsent 47 text 0 (length text) → false ≡ has_slash text
 no_slash text absent =
     let place : position_or_len is_slash text ≡ length text =
-    position_or_len_is is_slash text (length text) 0 (omega arith) (λ k below. ne_eqb _ _ (absent k (omega arith) below)) (λ below. absurd (omega arith)) in
+    position_or_len_is is_slash text (length text) 0 (omega arith)
+    (λ k below. ne_eqb _ _ (absent k (omega arith) below)) (λ below. absurd (omega arith)) in
     sym (ap (by_place text) place ∙ at_end (length text))
   where
     at_end : (n : ℕ) → (nat_lt 0 n && nat_lt n n) ≡ false
@@ -42,7 +35,8 @@ no_slash text absent =
 -- a text that begins with a `/` does not pass `has_slash`
 pub slash_first : (byte : ℕ) (rest : List ℕ) → is_slash byte ≡ true → has_slash (byte ∷ rest) ≡ false
 slash_first byte rest is =
-    let place : position_or_len is_slash (byte ∷ rest) ≡ 0 = position_or_len_is is_slash (byte ∷ rest) 0 0 (omega arith) (λ k below. absurd (omega (arith, below))) (λ below. is) in
+    let place : position_or_len is_slash (byte ∷ rest) ≡ 0 = position_or_len_is is_slash (byte ∷ rest) 0 0 (omega arith)
+    (λ k below. absurd (omega (arith, below))) (λ below. is) in
     ap (by_place (byte ∷ rest)) place
 
 -- ---- the network of a stretch
@@ -56,26 +50,31 @@ module _ (stretch : List ℕ) (has : has_slash stretch ≡ true) where
   unfolding network_in
   with_slash = ap (λ b. cond b (or_else (spelled_network stretch) (network_before_mark stretch)) None) has
 
-  pub whole : (address : IpAddr) → named_network stretch ≡ Some address → Shows (network_in stretch) stretch address (length stretch)
+  pub whole : (address : IpAddr) → named_network stretch ≡ Some address
+      → Shows (network_in stretch) stretch address (length stretch)
   whole address named = record {
     within = omega arith;
-    is = with_slash ∙ ap (λ found. or_else (with_text stretch found) (network_before_mark stretch)) named ∙ ap (λ text. Some (record { text = text; address = address })) (sym (take-length stretch));
+    is = with_slash ∙ ap (λ found. or_else (with_text stretch found) (network_before_mark stretch)) named
+        ∙ ap (λ text. Some (record { text = text; address = address })) (sym (take-length stretch));
   }
 
   unnamed : named_network stretch ≡ None → network_in stretch ≡ network_before_mark stretch
   unnamed none = with_slash ∙ ap (λ found. or_else (with_text stretch found) (network_before_mark stretch)) none
 
-  pub marked : (address : IpAddr) → named_network stretch ≡ None → ends_with_mark stretch ≡ true → named_network (take (length stretch - 1) stretch) ≡ Some address
+  pub marked : (address : IpAddr) → named_network stretch ≡ None → ends_with_mark stretch ≡ true
+      → named_network (take (length stretch - 1) stretch) ≡ Some address
       → Shows (network_in stretch) stretch address (length stretch - 1)
   marked address none ends named = record {
     within = omega arith;
-    is = unnamed none ∙ ap (λ b. cond b (spelled_network (take (length stretch - 1) stretch)) None) ends ∙ ap (with_text (take (length stretch - 1) stretch)) named;
+    is = unnamed none ∙ ap (λ b. cond b (spelled_network (take (length stretch - 1) stretch)) None) ends
+        ∙ ap (with_text (take (length stretch - 1) stretch)) named;
   }
 
   pub no_mark : named_network stretch ≡ None → ends_with_mark stretch ≡ false → network_in stretch ≡ None
   no_mark none ends = unnamed none ∙ ap (λ b. cond b (spelled_network (take (length stretch - 1) stretch)) None) ends
 
-  pub no_rest : named_network stretch ≡ None → named_network (take (length stretch - 1) stretch) ≡ None → network_in stretch ≡ None
+  pub no_rest : named_network stretch ≡ None → named_network (take (length stretch - 1) stretch) ≡ None
+      → network_in stretch ≡ None
   no_rest none rest = unnamed none ∙ none_if (ends_with_mark stretch)
     where
       none_if : (b : Bool) → cond b (spelled_network (take (length stretch - 1) stretch)) None ≡ None

@@ -3,10 +3,11 @@ use Rattle.std.specs.Prelude.{◌≡◌, ℕ, ◌-◌, ◌≤◌, Bool, List, []
 use Rattle.std.specs.Prelude.{if◌then◌else◌}
 use Rattle.std.specs.Option.{option_to_list}
 use Rattle.line_addresses.specs.Addresses.{Spelled, spelled}
-use Rattle.line_addresses.specs.Fields.{field_of}
+use Rattle.line_addresses.specs.Fields.{fields_of}
 use Rattle.line_addresses.specs.Following.{following}
 use Rattle.line_addresses.specs.Found.{spelled_at}
 use Rattle.line_addresses.specs.Networks.{found_of, spelled_network}
+use Rattle.line_addresses.specs.Places.{at_place}
 use Rattle.line_addresses.specs.Words.{words_of}
 use Rattle.line_addresses.specs.declared.area.Area.{Area}
 use Rattle.line_addresses.specs.declared.area.Part.{Part}
@@ -18,8 +19,8 @@ use Rattle.line_addresses.specs.declared.found.Found.{Found}
 -- the part of a line, if the line has it
 abbrev pub part_of : Part → List ℕ → Option (List ℕ)
 part_of parts.Line line = Some line
-part_of (parts.Field number separator) line = field_of number separator line
-part_of (parts.Word number) line = slice_get (words_of line) (number - 1)
+part_of (parts.Field place separator) line = at_place place (fields_of separator line)
+part_of (parts.Word place) line = at_place place (words_of line)
 part_of (parts.After text) line = following text line
 
 -- the last address of a list, or `before` if the list is empty

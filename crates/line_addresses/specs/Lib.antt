@@ -8,4 +8,6 @@ pub mod Laws
 pub mod Private
 pub mod LineRuns
 pub mod Networks
+pub mod Numbers
+pub mod Places
 pub mod Words

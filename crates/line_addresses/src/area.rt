@@ -1,12 +1,13 @@
 //! Where to look for the addresses of a line.
 ghost use Rattle.std.specs.Prelude.{◌≡◌};
 
+use crate::place::Place;
 use std::marker::Model;
 
 /// Where to look for the addresses of a line: in which part of it, and for which addresses there.
 ///
 /// ```
-/// let area = Area { part: Part::Word(3), pick: Pick::Whole };
+/// let area = Area { part: Part::Word(Place::Number(3)), pick: Pick::Whole };
 /// let line = b"Nov  3 10.1.1.1";
 /// assert_eq!(rt; part_of(&area.part, line), Some(b"10.1.1.1".as_slice()));
 /// ```
@@ -21,21 +22,21 @@ pub struct Area<'a> {
 /// A part of a line.
 ///
 /// ```
-/// assert_eq!(rt; part_of(&Part::Word(2), b"a 10.1.1.1"), Some(b"10.1.1.1".as_slice()));
+/// assert_eq!(rt; part_of(&Part::Word(Place::Number(2)), b"a 10.1.1.1"), Some(b"10.1.1.1".as_slice()));
 /// ```
 #[derive(Debug, Drop)]
 pub enum Part<'a> {
     /// The whole line.
     Line,
-    /// The field with this number, from 1 on. The line is split at each separator.
+    /// The field at this place. The line is split at each separator.
     Field {
-        /// The number of the field.
-        number: u32,
+        /// Which of the fields.
+        place: Place,
         /// The byte that separates fields.
         separator: u8,
     },
-    /// The word with this number, from 1 on.
-    Word(u32),
+    /// The word at this place. Words are separated by spaces and tabs.
+    Word(Place),
     /// What follows the first occurrence of a text.
     After(Text<'a>),
 }

@@ -1,7 +1,6 @@
 //! The fields of a line.
-ghost use Rattle.std.specs.Prelude.{◌≡◌, ◌==◌, ◌≤◌, length, drop, None, Some, MatchOption};
-ghost use Rattle.std.specs.List.{slice_split};
-ghost use Rattle.line_addresses.specs.Fields.{field_of, part_behind};
+ghost use Rattle.std.specs.Prelude.{◌≡◌, ◌≤◌, length, drop, None, Some, MatchOption, slice_get};
+ghost use Rattle.line_addresses.specs.Fields.{field_of, fields_of};
 
 use byte_search::find_from;
 
@@ -34,8 +33,7 @@ pub fn field_of(line: &[u8], number: u32, separator: u8) -> Option<&[u8]>
 #[inline(always)]
 fn field_at(line: &[u8], start: usize, separator: u8) -> &[u8]
     requires { start ≤ length line.now }
-    ensures { part_behind 0 (slice_split (λ b. b == separator) (drop start line.now))
-        ≡ Some result.now }
+    ensures { slice_get (fields_of separator (drop start line.now)) 0 ≡ Some result.now }
 {
     match find_from(line, start, separator) {
         Some(end) => &line[start..end],

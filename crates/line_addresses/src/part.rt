@@ -3,16 +3,16 @@ ghost use Rattle.std.specs.Prelude.{◌≡◌, None, Some, MatchOption};
 ghost use Rattle.line_addresses.specs.Areas.{part_of};
 
 use crate::area::Part;
-use crate::field::field_of;
 use crate::first_position::following;
-use crate::words::word_of;
+use crate::place::{field_at_place, word_at_place};
 
 /// Returns this part of a line, or `None` if the line does not have it.
 ///
 /// ```
 /// let line = b"a,10.1.1.1";
-/// assert_eq!(rt; part_of(&Part::Field { number: 2, separator: b',' }, line), Some(b"10.1.1.1".as_slice()));
-/// assert_eq!(rt; part_of(&Part::Word(2), line), None);
+/// let second = Place::Number(2);
+/// assert_eq!(rt; part_of(&Part::Field { place: second, separator: b',' }, line), Some(b"10.1.1.1".as_slice()));
+/// assert_eq!(rt; part_of(&Part::Word(second), line), None);
 /// ```
 #[inline(always)]
 pub fn part_of<'a>(part: &Part<'_>, line: &'a [u8]) -> Option<&'a [u8]>
@@ -21,8 +21,8 @@ pub fn part_of<'a>(part: &Part<'_>, line: &'a [u8]) -> Option<&'a [u8]>
 {
     match part {
         Part::Line => Some(line),
-        Part::Field { number, separator } => field_of(line, *number, *separator),
-        Part::Word(number) => word_of(line, *number),
+        Part::Field { place, separator } => field_at_place(line, *place, *separator),
+        Part::Word(place) => word_at_place(line, *place),
         Part::After(text) => following(line, text.bytes()),
     }
 }

@@ -1,7 +1,9 @@
+mod LineExamples
 pub mod BytesLemmas
 pub mod FirstLines
 pub mod HandingOut
-mod LineExamples
+pub mod Known
 pub mod Lines
 pub mod Putting
+pub mod Words
 pub mod Writes

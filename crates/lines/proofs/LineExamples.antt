@@ -1,8 +1,5 @@
 -- Lines that would reveal a misreading of the definitions.
-use Rattle.std.proofs.Common.{◌≡◌, [], ◌∷◌, ◌++◌, true, false, codes, length, refl, sym, ap, true≢false, arith}
-use Rattle.std.specs.List.{concat}
-use Rattle.lines.specs.LineBuffers.{IsFirstLine}
-use Rattle.lines.specs.declared.line_end.LineEnd.TheVariants.{LineFeed, ReturnAndLineFeed, EndOfInput}
+use Rattle.lines.proofs.Words.{◌≡◌, [], ◌∷◌, ◌++◌, true, false, codes, length, refl, sym, ap, true≢false, arith, concat, IsFirstLine, LineFeed, ReturnAndLineFeed, EndOfInput}
 use Rattle.lines.proofs.Lines.{lines_line}
 
 -- a line feed ends a line, and what follows it is not part of the line

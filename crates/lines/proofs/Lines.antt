@@ -1,13 +1,6 @@
 -- The lines of an input, piece by piece.
-use Rattle.std.proofs.Common.{if◌then◌else◌, ◌≡◌, ℕ, ◌⊎◌, inl, inr, true, false, List, [], ◌∷◌, ◌++◌, length, take, ◌==◌, cond, refl, sym, ap, ap₂, ◌∙◌, arith, append_assoc, append-nil, length-append}
-use Rattle.std.proofs.lemmas.Bool.Decides.{eqb_tells}
-use Rattle.std.proofs.Math.Bool.{or-true}
-use Rattle.std.proofs.Math.Dec.{eqb-suc-zero}
-use Rattle.std.proofs.Math.Seq.{take-append_seam}
-use Rattle.std.specs.List.{list_any, slice_split}
-use Rattle.std.specs.Str.Lines.{lines, lines_of_parts, strip_carriage_return}
+use Rattle.lines.proofs.Words.{if◌then◌else◌, ◌≡◌, ℕ, ◌⊎◌, inl, inr, true, false, List, [], ◌∷◌, ◌++◌, length, take, ◌==◌, cond, refl, sym, ap, ap₂, ◌∙◌, arith, append_assoc, append-nil, length-append, eqb_tells, or-true, eqb-suc-zero, take-append_seam, list_any, slice_split, lines, lines_of_parts, strip_carriage_return, complete_part, IsBeginning}
 use Rattle.lines.proofs.BytesLemmas.{HasNo, HasNo-push, split_at, split_none, split_cons}
-use Rattle.lines.specs.Parts.{complete_part, IsBeginning}
 
 -- `pending` is what was read after the last line feed.
 unfoldable pub lines_from : List ℕ → List ℕ → List (List ℕ)
@@ -22,7 +15,8 @@ unfoldable pub pending_from : List ℕ → List ℕ → List ℕ
 -- an empty piece changes nothing
 pending_from pending [] = pending
 -- after a line feed, nothing is pending; any other byte becomes pending
-pending_from pending (byte ∷ piece) = if byte == 10 then pending_from [] piece else pending_from (pending ++ byte ∷ []) piece
+pending_from pending (byte ∷ piece) =
+    if byte == 10 then pending_from [] piece else pending_from (pending ++ byte ∷ []) piece
 
 -- the line that is pending at the end of the input, if there is one
 unfoldable pub last_line : List ℕ → List (List ℕ)
@@ -31,7 +25,8 @@ last_line [] = []
 -- otherwise, all that is pending is the last line
 last_line (byte ∷ bytes) = (byte ∷ bytes) ∷ []
 
-parts_cons : (a b : List ℕ) → lines_of_parts (a ∷ slice_split (λ x. x == 10) b) ≡ strip_carriage_return a ∷ lines_of_parts (slice_split (λ x. x == 10) b)
+parts_cons : (a b : List ℕ) → lines_of_parts (a ∷ slice_split (λ x. x == 10) b) ≡ strip_carriage_return a
+    ∷ lines_of_parts (slice_split (λ x. x == 10) b)
 parts_cons a b = let e = (split_cons 10 b).2 in rw e refl
 
 -- the first line of a text, and the lines after it
@@ -53,7 +48,8 @@ pub lines_other : (p xs : List ℕ) (c : ℕ) → (c == 10) ≡ false → lines_
 unfolding lines_from
 lines_other p xs c e = rw e refl
 
-pub pending_other : (p xs : List ℕ) (c : ℕ) → (c == 10) ≡ false → pending_from p (c ∷ xs) ≡ pending_from (p ++ c ∷ []) xs
+pub pending_other : (p xs : List ℕ) (c : ℕ) → (c == 10) ≡ false
+    → pending_from p (c ∷ xs) ≡ pending_from (p ++ c ∷ []) xs
 unfolding pending_from
 pending_other p xs c e = rw e refl
 
@@ -63,7 +59,8 @@ pub pending-append : (p a b : List ℕ) → pending_from p (a ++ b) ≡ pending_
 unfolding pending_from
 pending-append p [] b = refl
 pending-append p (c ∷ a) b =
-    elim (c == 10) as (λ v. cond v (pending_from [] (a ++ b)) (pending_from (p ++ c ∷ []) (a ++ b)) ≡ pending_from (cond v (pending_from [] a) (pending_from (p ++ c ∷ []) a)) b) [
+    elim (c == 10) as (λ v. cond v (pending_from [] (a ++ b)) (pending_from (p ++ c ∷ []) (a ++ b)) ≡ pending_from
+    (cond v (pending_from [] a) (pending_from (p ++ c ∷ []) a)) b) [
       | true ↦ pending-append [] a b
       | false ↦ pending-append (p ++ c ∷ []) a b
     ]
@@ -74,7 +71,8 @@ lines-append p [] b = refl
 lines-append p (c ∷ a) b =
     let line = strip_carriage_return p in
     elim (c == 10) as (λ v. cond v (line ∷ lines_from [] (a ++ b)) (lines_from (p ++ c ∷ []) (a ++ b))
-    ≡ cond v (line ∷ lines_from [] a) (lines_from (p ++ c ∷ []) a) ++ lines_from (cond v (pending_from [] a) (pending_from (p ++ c ∷ []) a)) b) [
+    ≡ cond v (line ∷ lines_from [] a) (lines_from (p ++ c ∷ []) a)
+    ++ lines_from (cond v (pending_from [] a) (pending_from (p ++ c ∷ []) a)) b) [
       | true ↦ ap (λ ls. line ∷ ls) (lines-append [] a b)
       | false ↦ lines-append (p ++ c ∷ []) a b
     ]
@@ -110,15 +108,18 @@ complete_none (x ∷ p) h = ap (λ v. cond v (x ∷ complete_part p) []) (any_no
 complete_line : (p xs : List ℕ) → complete_part (p ++ 10 ∷ xs) ≡ p ++ 10 ∷ complete_part xs
 unfolding complete_part
 complete_line [] xs = refl
-complete_line (x ∷ p) xs = ap (λ v. cond v (x ∷ complete_part (p ++ 10 ∷ xs)) []) (any_line (x ∷ p) xs) ∙ ap (λ l. x ∷ l) (complete_line p xs)
+complete_line (x ∷ p) xs = ap (λ v. cond v (x ∷ complete_part (p ++ 10 ∷ xs)) []) (any_line (x ∷ p) xs)
+    ∙ ap (λ l. x ∷ l) (complete_line p xs)
 
 -- the lines of the bytes up to the last line feed are the complete ones
 pub lines_complete : (p xs : List ℕ) → HasNo 10 p → lines (complete_part (p ++ xs)) ≡ lines_from p xs
 unfolding lines_from
 lines_complete p [] h = ap (λ l. lines (complete_part l)) (append-nil p) ∙ ap lines (complete_none p h)
 lines_complete p (c ∷ xs) h = elim (newline_cases c) [
-  | inl e ↦ rw e (ap lines (complete_line p xs) ∙ lines_line p (complete_part xs) h ∙ ap (λ ls. strip_carriage_return p ∷ ls) (lines_complete [] xs tt))
-  | inr e ↦ ap (λ l. lines (complete_part l)) (push_assoc p xs c) ∙ lines_complete (p ++ c ∷ []) xs (HasNo-push 10 p c h e) ∙ sym (lines_other p xs c e)
+  | inl e ↦ rw e (ap lines (complete_line p xs) ∙ lines_line p (complete_part xs) h
+      ∙ ap (λ ls. strip_carriage_return p ∷ ls) (lines_complete [] xs tt))
+  | inr e ↦ ap (λ l. lines (complete_part l)) (push_assoc p xs c)
+      ∙ lines_complete (p ++ c ∷ []) xs (HasNo-push 10 p c h e) ∙ sym (lines_other p xs c e)
 ]
 
 -- ---- the first lines, whatever follows
@@ -129,26 +130,27 @@ unfolding lines_from pending_from last_line
 line_more read =
     let line = strip_carriage_return (pending_from [] read) in (
       line,
-      lines_split [] (read ++ 10 ∷ []) tt ∙ ap₂ (λ ls p. ls ++ last_line p) (lines-append [] read (10 ∷ [])) (pending-append [] read (10 ∷ []))
+      lines_split [] (read ++ 10 ∷ []) tt ∙ ap₂ (λ ls p. ls ++ last_line p) (lines-append [] read (10 ∷ []))
+          (pending-append [] read (10 ∷ []))
           ∙ append-nil (lines_from [] read ++ line ∷ []) ∙ ap (λ ls. ls ++ line ∷ []) (sym (lines_complete [] read tt)),
     )
 
 same_but_last : (ls ms : List (List ℕ)) (l m : List ℕ) → ls ++ l ∷ [] ≡ ms ++ m ∷ [] → ls ≡ ms
 same_but_last ls ms l m e =
-    let counted : length ls ≡ length ms = omega (arith, ap length e, length-append ls (l ∷ []), length-append ms (m ∷ [])) in
+    let counted : length ls ≡ length ms =
+    omega (arith, ap length e, length-append ls (l ∷ []), length-append ms (m ∷ [])) in
     sym (take-append_seam ls (l ∷ [])) ∙ ap₂ take counted e ∙ take-append_seam ms (m ∷ [])
 
 -- lines that come first when a line feed ends what follows them are the complete ones
-pub first_are_complete : (read : List ℕ) (asks : List (List ℕ)) (pending : List ℕ) → HasNo 10 pending → lines (read ++ 10 ∷ []) ≡ asks ++ lines (pending ++ 10 ∷ [])
+pub first_are_complete : (read : List ℕ) (asks : List (List ℕ)) (pending : List ℕ) → HasNo 10 pending
+    → lines (read ++ 10 ∷ []) ≡ asks ++ lines (pending ++ 10 ∷ [])
     → lines (complete_part read) ≡ asks
 first_are_complete read asks pending none same =
     let more = line_more read in
-    same_but_last (lines (complete_part read)) asks more.0 (strip_carriage_return pending) (sym more.1 ∙ same ∙ ap (λ ls. asks ++ ls) (lines_line pending [] none))
+    same_but_last (lines (complete_part read)) asks more.0 (strip_carriage_return pending)
+    (sym more.1 ∙ same ∙ ap (λ ls. asks ++ ls) (lines_line pending [] none))
 
 -- ---- beginnings
-
-pub begins_itself : (a : List ℕ) → IsBeginning a a
-begins_itself a = ([], sym (append-nil a))
 
 pub begins_with_nothing : (a : List ℕ) → IsBeginning [] a
 begins_with_nothing a = (a, refl)

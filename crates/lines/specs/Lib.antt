@@ -4,6 +4,6 @@ pub mod LineBuffers
 pub mod LineEnds
 pub mod LineReaders
 pub mod Outputs
-pub mod Parts
+pub mod Beginnings
 pub mod Private
 pub mod Watched

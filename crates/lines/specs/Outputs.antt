@@ -1,7 +1,7 @@
 -- What is written, and what waits to be written.
 use Rattle.std.specs.Prelude.{◌≡◌, ℕ, Bool, List, ◌++◌, Option}
 use Rattle.std.specs.Io.KnownBytes.{Appends}
-use Rattle.lines.specs.Parts.{IsBeginning}
+use Rattle.lines.specs.Beginnings.{IsBeginning}
 
 -- how contracts see an `Output`
 pub record Written (W : Type 0) : Type 0 where

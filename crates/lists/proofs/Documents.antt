@@ -1,45 +1,51 @@
 -- What is taken of a document.
-use Rattle.std.proofs.Common.{◌≡◌, ◌<◌, ℕ, Bool, true, false, List, [], ◌∷◌, ◌++◌, refl, subst, length, inl, inr}
-use Rattle.std.specs.Prelude.{Result, Ok, Err, OnOk, IfErr}
-use Rattle.lists.specs.Bytes.{IsAllOf, BytesStop}
-use Rattle.lists.specs.Documents.{IsNoDocument, TakesString, TakesStrings, TakesDocument, ReadsDocument, StopsAtDocument}
-use Rattle.lists.specs.KnownLists.{KnownLists}
-use Rattle.lists.specs.Lists.{ReadLists, at_list}
-use Rattle.lists.specs.Private.Documents.{TakesBytes, FailsBytes, not_read}
-use Rattle.lists.specs.declared.bytes.BytesFault.{BytesFault}
+use Rattle.lists.proofs.Words.{◌≡◌, ◌<◌, ℕ, Bool, true, false, List, [], ◌∷◌, ◌++◌, refl, subst, length, inl, inr, Result, Ok, Err, OnOk, IfErr, IsAllOf, BytesStop, IsNoDocument, TakesStrings, TakesDocument, ReadsDocument, StopsAtDocument, KnownLists, ReadLists, at_list, TakesBytes, FailsBytes, not_read, BytesFault, ReadFault}
 use Rattle.lists.specs.declared.bytes.BytesFault.TheVariants as unread
-use Rattle.lists.specs.declared.named.ReadFault.{ReadFault}
 use Rattle.lists.specs.declared.named.ReadFault.TheVariants as faults
 
 -- strings after others
-pub strings_joined : (strict : Bool) (before between after : ReadLists) (some others : List (List ℕ)) → TakesStrings strict before some between → TakesStrings strict between others after
+pub strings_joined : (strict : Bool) (before between after : ReadLists) (some others : List (List ℕ))
+    → TakesStrings strict before some between → TakesStrings strict between others after
     → TakesStrings strict before (some ++ others) after
-strings_joined strict before between after [] others h k = subst (λ (l : ReadLists). TakesStrings strict l others after) h k
-strings_joined strict before between after (text ∷ some) others h k = (h.0, h.1, strings_joined strict h.0 between after some others h.2 k)
+strings_joined strict before between after [] others h k =
+    subst (λ (l : ReadLists). TakesStrings strict l others after) h k
+strings_joined strict before between after (text ∷ some) others h k =
+    (h.0, h.1, strings_joined strict h.0 between after some others h.2 k)
 
 module _ (known : KnownLists) (strict : Bool) (name : List ℕ) (number : ℕ) (before : ReadLists) where
   -- its bytes were not read
-  pub stops_unread : (fault : BytesFault) → BytesStop known name 1073741824 fault → StopsAtDocument known strict number name before (not_read number fault) before
+  pub stops_unread : (fault : BytesFault) → BytesStop known name 1073741824 fault
+      → StopsAtDocument known strict number name before (not_read number fault) before
   stops_unread (unread.Open cause) h = (refl, h.0, h.1, refl)
   stops_unread unread.Read h = (refl, h.0, h.1, refl)
   stops_unread unread.Length h = (refl, h.0, h.1, refl)
   stops_unread unread.OutOfMemory h = inl (h, refl)
 
   module _ (bytes : List ℕ) (after : ReadLists) (all : IsAllOf known name bytes) where
-    document_read : (out : Bool) → TakesBytes strict (at_list before number) bytes after out → ReadsDocument known strict number name before after
-    document_read out h = (all.0, λ input e. subst (λ (b : List ℕ). TakesDocument strict (at_list before number) b after) (all.1 input e) h.0)
+    document_read : (out : Bool) → TakesBytes strict (at_list before number) bytes after out
+        → ReadsDocument known strict number name before after
+    document_read out h = (
+      all.0,
+      λ input e. subst (λ (b : List ℕ). TakesDocument strict (at_list before number) b after)
+          (all.1 input e) h.0,
+    )
 
-    fails_by : (fault : ReadFault) → FailsBytes strict number bytes before after fault → StopsAtDocument known strict number name before fault after
+    fails_by : (fault : ReadFault) → FailsBytes strict number bytes before after fault
+        → StopsAtDocument known strict number name before fault after
     fails_by (faults.Open place cause) h = absurd h
     fails_by (faults.Read place) h = absurd h
     fails_by (faults.Length place) h = absurd h
-    fails_by (faults.NotJson place line) h = (h.0, all.0, (λ input e. subst (λ (b : List ℕ). IsNoDocument b) (all.1 input e) h.1), h.2)
-    fails_by faults.OutOfMemory (inl h) = inl ((all.0, λ input e. subst (λ (b : List ℕ). 0 < length b) (all.1 input e) h.0), h.1)
+    fails_by (faults.NotJson place line) h =
+        (h.0, all.0, (λ input e. subst (λ (b : List ℕ). IsNoDocument b) (all.1 input e) h.1), h.2)
+    fails_by faults.OutOfMemory (inl h) =
+        inl ((all.0, λ input e. subst (λ (b : List ℕ). 0 < length b) (all.1 input e) h.0), h.1)
     fails_by faults.OutOfMemory (inr h) = inr (document_read true h, h.1)
 
     pub document_ends : {T : Type 0} (result : Result T ReadFault)
-        → OnOk result (TakesBytes strict (at_list before number) bytes after false) → IfErr result (FailsBytes strict number bytes before after)
-        → OnOk result (ReadsDocument known strict number name before after) × OnOk result (after.is_out_of_memory ≡ false)
+        → OnOk result (TakesBytes strict (at_list before number) bytes after false)
+        → IfErr result (FailsBytes strict number bytes before after)
+        → OnOk result (ReadsDocument known strict number name before after)
+        × OnOk result (after.is_out_of_memory ≡ false)
         × IfErr result (λ fault. StopsAtDocument known strict number name before fault after)
     document_ends (Ok done) h k = (document_read false h, h.1, tt)
     document_ends (Err fault) h k = (tt, tt, fails_by fault k)

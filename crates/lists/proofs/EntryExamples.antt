@@ -1,11 +1,6 @@
 -- Values at which a misreading of the definitions would show.
-use Rattle.std.proofs.Common.{◌≡◌, ◌≢◌, ◌∷◌, ◌++◌, [], ℕ, true, false, map, refl}
-use Rattle.std.specs.Prelude.{codes, None, Some}
-use Rattle.std.proofs.lemmas.Bool.{ne_eqb}
-use Rattle.lists.specs.Encodings.{encoding_of}
-use Rattle.lists.specs.declared.encoding.Encoding.TheVariants.{ByteOrderMark, Utf16, Gzip, Nul}
-use Rattle.lists.specs.Lines.{is_blank, begins_comment}
-use Rattle.lists.specs.Entries.{entry_text}
+use Rattle.lists.proofs.Words.{◌≡◌, ◌≢◌, ◌∷◌, ◌++◌, [], ℕ, true, false, refl, codes, None, Some, ne_eqb, encoding_of, ByteOrderMark, Utf16, Gzip, Nul, is_blank, begins_comment, entry_text}
+use Rattle.std.proofs.Common.{map}
 
 -- a space and a tab are blanks, and no other byte is
 pub a_space_and_a_tab_are_blank : (is_blank 32 ≡ true) × (is_blank 9 ≡ true)
@@ -25,10 +20,12 @@ pub what_is_left_of_a_line : entry_text (codes " \t::1 \t# ;") ≡ codes "::1"
 what_is_left_of_a_line = refl
 
 -- a mark counts at the beginning and as a whole, a NUL byte anywhere
-pub encodings : map encoding_of ((239 ∷ 187 ∷ 191 ∷ codes "::") ∷ (255 ∷ 254 ∷ []) ∷ (254 ∷ 255 ∷ 0 ∷ []) ∷ (31 ∷ 139 ∷ 0 ∷ []) ∷ (codes "::" ++ 0 ∷ []) ∷ [])
+pub encodings : map encoding_of ((239 ∷ 187 ∷ 191 ∷ codes "::") ∷ (255 ∷ 254 ∷ []) ∷ (254 ∷ 255 ∷ 0 ∷ [])
+    ∷ (31 ∷ 139 ∷ 0 ∷ []) ∷ (codes "::" ++ 0 ∷ []) ∷ [])
     ≡ Some ByteOrderMark ∷ Some Utf16 ∷ Some Utf16 ∷ Some Gzip ∷ Some Nul ∷ []
 encodings = refl
 
-pub no_encodings : map encoding_of ((239 ∷ 187 ∷ []) ∷ (32 ∷ 239 ∷ 187 ∷ 191 ∷ []) ∷ (255 ∷ []) ∷ (254 ∷ 254 ∷ []) ∷ (139 ∷ 31 ∷ []) ∷ codes "::" ∷ [] ∷ [])
+pub no_encodings : map encoding_of ((239 ∷ 187 ∷ []) ∷ (32 ∷ 239 ∷ 187 ∷ 191 ∷ []) ∷ (255 ∷ []) ∷ (254 ∷ 254 ∷ [])
+    ∷ (139 ∷ 31 ∷ []) ∷ codes "::" ∷ [] ∷ [])
     ≡ None ∷ None ∷ None ∷ None ∷ None ∷ None ∷ None ∷ []
 no_encodings = refl

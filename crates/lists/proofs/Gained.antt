@@ -1,23 +1,12 @@
 -- What a network or a range adds to the addresses.
-use Rattle.std.proofs.Common.{◌≡◌, ◌↔◌, ◌⊎◌, inl, inr, ⊎_elim, ℕ, ◌^◌, ◌<◌, List, [], ◌∷◌, ◌++◌, sym, subst}
-use Rattle.std.specs.Prelude.{Result, Ok, Err, OnOk, is_err}
-use Rattle.ipnetwork_addr.specs.declared.ip.IpAddr.{IpAddr}
-use Rattle.ipnetwork_addr.specs.declared.ip.IpAddr.TheVariants.{V4, V6}
-use Rattle.ipnetwork_family.specs.Network.{Network, Member}
+use Rattle.lists.proofs.Words.{◌≡◌, ◌↔◌, ◌⊎◌, inl, inr, ⊎_elim, ℕ, ◌^◌, ◌<◌, List, [], ◌∷◌, ◌++◌, sym, subst, Result, Ok, Err, OnOk, is_err, IpAddr, V4, V6, Network, Member, InUnion, FromTo, in_union_push, range_is_shortest, union_append, Entry, ReadLists, HasAddress, Names, TakesEntry, AddsBlocks, AddsEntry, IsGoodEntry}
 use Rattle.ipnetwork.specs.declared.ip_network.IpNetwork.TheVariants as networks
-use Rattle.ipnetwork_blocks.specs.Aggregate.{InUnion}
-use Rattle.ipnetwork_blocks.specs.Ranges.{FromTo}
-use Rattle.ipnetwork_blocks.proofs.AggregateUnions.{in_union_push}
-use Rattle.ipnetwork_blocks.proofs.MaximalBlocks.{range_is_shortest}
-use Rattle.ipnetwork_sets.proofs.FromRanges.{union_append}
-use Rattle.lists.specs.declared.entry.Entry.{Entry}
 use Rattle.lists.specs.declared.entry.Entry.TheVariants as entries
-use Rattle.lists.specs.Lists.{ReadLists, HasAddress, Names, TakesEntry}
-use Rattle.lists.specs.Added.{AddsBlocks, AddsEntry}
-use Rattle.lists.specs.Private.Taking.{IsGoodEntry}
 
-gains_network : (w : ℕ) (before after : List Network) (n : Network) → after ≡ before ++ n ∷ [] → (x : ℕ) → InUnion w after x ↔ (InUnion w before x ⊎ Member w n x)
-gains_network w before after n e x = subst (λ (l : List Network). InUnion w l x ↔ (InUnion w before x ⊎ Member w n x)) (sym e) (in_union_push w before n x)
+gains_network : (w : ℕ) (before after : List Network) (n : Network) → after ≡ before ++ n ∷ [] → (x : ℕ)
+    → InUnion w after x ↔ (InUnion w before x ⊎ Member w n x)
+gains_network w before after n e x = subst (λ (l : List Network). InUnion w l x ↔ (InUnion w before x ⊎ Member w n x))
+    (sym e) (in_union_push w before n x)
 
 gains_blocks : (w first last : ℕ) (before after : List Network) → last < 2 ^ w → AddsBlocks w first last before after
     → (x : ℕ) → InUnion w after x ↔ (InUnion w before x ⊎ FromTo first last x)
@@ -30,36 +19,49 @@ gains_blocks w first last before after fits h x =
     )
 
 -- where nothing is added
-gains_nothing : (w : ℕ) (before after : List Network) → after ≡ before → (P : Type 0) → (P → ⊥) → (x : ℕ) → InUnion w after x ↔ (InUnion w before x ⊎ P)
+gains_nothing : (w : ℕ) (before after : List Network) → after ≡ before → (P : Type 0) → (P → ⊥) → (x : ℕ)
+    → InUnion w after x ↔ (InUnion w before x ⊎ P)
 gains_nothing w before after e P none x = (
   (λ c. inl (subst (λ (l : List Network). InUnion w l x) e c)),
-  (λ o. ⊎_elim (λ (d : InUnion w before x). subst (λ (l : List Network). InUnion w l x) (sym e) d) (λ (d : P). absurd (none d)) o),
+  (λ o. ⊎_elim (λ (d : InUnion w before x). subst (λ (l : List Network). InUnion w l x) (sym e) d)
+      (λ (d : P). absurd (none d)) o),
 )
 
-pub same_addresses : (before after : ReadLists) → after.v4 ≡ before.v4 → after.v6 ≡ before.v6 → (P : Type 0) → (P → ⊥) → (a : IpAddr)
-    → HasAddress after a ↔ (HasAddress before a ⊎ P)
-same_addresses before after e f P none (V4 a) = gains_nothing 32 before.v4 after.v4 e P none a
-same_addresses before after e f P none (V6 a) = gains_nothing 128 before.v6 after.v6 f P none a
-
-pub gains_entry : (before after : ReadLists) (entry : Entry) → IsGoodEntry entry → AddsEntry before.v4 before.v6 entry after.v4 after.v6 → (a : IpAddr)
+pub gains_entry : (before after : ReadLists) (entry : Entry) → IsGoodEntry entry
+    → AddsEntry before.v4 before.v6 entry after.v4 after.v6 → (a : IpAddr)
     → HasAddress after a ↔ (HasAddress before a ⊎ Names entry a)
 gains_entry before after (entries.Network (networks.V4 n)) good h (V4 a) = gains_network 32 before.v4 after.v4 n h.0 a
-gains_entry before after (entries.Network (networks.V4 n)) good h (V6 a) = gains_nothing 128 before.v6 after.v6 h.1 ⊥ (λ x. x) a
-gains_entry before after (entries.Network (networks.V6 n)) good h (V4 a) = gains_nothing 32 before.v4 after.v4 h.1 ⊥ (λ x. x) a
+gains_entry before after (entries.Network (networks.V4 n)) good h (V6 a) =
+    gains_nothing 128 before.v6 after.v6 h.1 ⊥ (λ x. x) a
+gains_entry before after (entries.Network (networks.V6 n)) good h (V4 a) =
+    gains_nothing 32 before.v4 after.v4 h.1 ⊥ (λ x. x) a
 gains_entry before after (entries.Network (networks.V6 n)) good h (V6 a) = gains_network 128 before.v6 after.v6 n h.0 a
-gains_entry before after (entries.Range (V4 first) (V4 last)) good h (V4 a) = gains_blocks 32 first last before.v4 after.v4 h.2 h.0 a
-gains_entry before after (entries.Range (V4 first) (V4 last)) good h (V6 a) = gains_nothing 128 before.v6 after.v6 h.1 (⊥ × ⊥) (λ x. x.0) a
+gains_entry before after (entries.Range (V4 first) (V4 last)) good h (V4 a) =
+    gains_blocks 32 first last before.v4 after.v4 h.2 h.0 a
+gains_entry before after (entries.Range (V4 first) (V4 last)) good h (V6 a) =
+    gains_nothing 128 before.v6 after.v6 h.1 (⊥ × ⊥) (λ x. x.0) a
 gains_entry before after (entries.Range (V4 first) (V6 last)) good h a = absurd good
 gains_entry before after (entries.Range (V6 first) (V4 last)) good h a = absurd good
-gains_entry before after (entries.Range (V6 first) (V6 last)) good h (V4 a) = gains_nothing 32 before.v4 after.v4 h.1 (⊥ × ⊥) (λ x. x.0) a
-gains_entry before after (entries.Range (V6 first) (V6 last)) good h (V6 a) = gains_blocks 128 first last before.v6 after.v6 h.2 h.0 a
+gains_entry before after (entries.Range (V6 first) (V6 last)) good h (V4 a) =
+    gains_nothing 32 before.v4 after.v4 h.1 (⊥ × ⊥) (λ x. x.0) a
+gains_entry before after (entries.Range (V6 first) (V6 last)) good h (V6 a) =
+    gains_blocks 128 first last before.v6 after.v6 h.2 h.0 a
 
 -- what is known where the entry was pushed, or could not be
-pub pushed : {A E : Type 0} (inside before after : ReadLists) (entry : Entry) (result : Result A E) → inside ≡ before → IsGoodEntry entry
-    → OnOk result (AddsEntry inside.v4 inside.v6 entry after.v4 after.v6) → after.refused ≡ inside.refused → after.list ≡ inside.list
+pub pushed : {A E : Type 0} (inside before after : ReadLists) (entry : Entry) (result : Result A E) → inside ≡ before
+    → IsGoodEntry entry
+    → OnOk result (AddsEntry inside.v4 inside.v6 entry after.v4 after.v6) → after.refused ≡ inside.refused
+    → after.list ≡ inside.list
     → after.line ≡ inside.line → after.is_out_of_memory ≡ is_err result → TakesEntry before entry after
 pushed inside before after entry (Ok done) e good h refused list line memory =
     subst (λ (b : ReadLists). TakesEntry b entry after) e
-    (inl (record { networks = h; addresses = gains_entry inside after entry good h; refused = refused; list = list; line = line; memory = memory }))
+    (inl (record {
+      networks = h;
+      addresses = gains_entry inside after entry good h;
+      refused = refused;
+      list = list;
+      line = line;
+      memory = memory;
+    }))
 pushed inside before after entry (Err fault) e good h refused list line memory =
     subst (λ (b : ReadLists). TakesEntry b entry after) e (inr (record { refused = refused; memory = memory }))

@@ -1,17 +1,14 @@
+pub mod CommentExamples
 pub mod DocumentExamples
-pub mod DocumentLaws
 pub mod Documents
-pub mod Handed
 pub mod EntryExamples
-pub mod EntryLawExamples
 pub mod FirstLines
 pub mod Gained
-pub mod LawExamples
-pub mod MergedParts
+pub mod Handed
+pub mod Known
 pub mod NamedLists
-pub mod Occurrences
 pub mod PartExamples
-pub mod Parts
+pub mod Dashes
 pub mod PlainTexts
 pub mod Printed
 pub mod ReadingExamples
@@ -19,3 +16,4 @@ pub mod Readings
 pub mod Taken
 pub mod Trims
 pub mod WholeLists
+pub mod Words

@@ -1,38 +1,41 @@
 -- A list that is read.
-use Rattle.std.proofs.Common.{◌≡◌, ◌<◌, ◌-◌, ◌^◌, [], ℕ, List, Bool, true, false, inl, inr, refl, sym, ap, subst, arith, length, append-nil, length-append}
-use Rattle.std.specs.Prelude.{Option, None, Some, Result, Ok, Err, OnOk, IfErr}
-use Rattle.std.specs.Io.KnownBytes.{Consumes}
-use Rattle.std.specs.Str.Lines.{lines}
-use Rattle.lines.specs.Faults.{ended_by_read}
-use Rattle.lines.specs.declared.fault.RunFault.{RunFault}
+use Rattle.lists.proofs.Words.{◌≡◌, ◌<◌, ◌-◌, ◌^◌, [], ℕ, List, Bool, true, false, inl, inr, refl, sym, ap, subst, arith, length, append-nil, length-append, Option, None, Some, Result, Ok, Err, OnOk, IfErr, Consumes, lines, ended_by_read, RunFault, ReadLists, at_list, TakesLines, TakesBefore, KnownLists, end_of, ReadsFirst, FailsReading, StopsAt, ReadFault}
 use Rattle.lines.specs.declared.fault.RunFault.TheVariants as faults
-use Rattle.lists.specs.Lists.{ReadLists, at_list, TakesLines}
-use Rattle.lists.specs.Stopped.{TakesBefore}
 use Rattle.lists.proofs.FirstLines.{first_taken, first_taken_of_too_many}
-use Rattle.lists.specs.KnownLists.{KnownLists}
-use Rattle.lists.specs.Private.Readings.{end_of}
-use Rattle.lists.specs.Reading.{ReadsFirst, FailsReading, StopsAt}
-use Rattle.lists.specs.declared.named.ReadFault.{ReadFault}
 
 -- more bytes were read of a list than 64 bits count, so it has more
-many_read : (input read : List ℕ) (rest : Option (List ℕ)) → Consumes (Some input) rest read → 2 ^ 64 - 1 < length read → 2 ^ 64 - 1 < length input
+many_read : (input read : List ℕ) (rest : Option (List ℕ)) → Consumes (Some input) rest read → 2 ^ 64 - 1 < length read
+    → 2 ^ 64 - 1 < length input
 many_read input read None h many = absurd h
 many_read input read (Some left) h many = omega (arith, many, ap (λ (l : List ℕ). length l) h, length-append read left)
 
-module _ (known : KnownLists) (number : ℕ) (name : List ℕ) (before after : ReadLists) (left rest : Option (List ℕ)) (opened : known.may_open name true)
+module _ (known : KnownLists) (number : ℕ) (name : List ℕ) (before after : ReadLists) (left rest : Option (List ℕ))
+    (opened : known.may_open name true)
     (has : (bytes : List ℕ) → known.bytes_of name ≡ Some bytes → left ≡ Some bytes) where
   -- what was taken before a fault are first lines of the list
   first_of : TakesBefore left rest faults.Read (at_list before number) after → ReadsFirst known number name before after
-  first_of h = (opened, λ input e. first_taken input rest (at_list before number) after (subst (λ (l : Option (List ℕ)). TakesBefore l rest faults.Read (at_list before number) after) (has input e) h))
+  first_of h = (
+    opened,
+    λ input e. first_taken input rest (at_list before number) after
+        (subst (λ (l : Option (List ℕ)). TakesBefore l rest faults.Read (at_list before number) after) (has input e) h),
+  )
 
-  first_of_too_many : TakesBefore left rest faults.InputTooLong (at_list before number) after → ReadsFirst known number name before after
-  first_of_too_many h = (opened, λ input e. first_taken_of_too_many input rest (at_list before number) after (subst (λ (l : Option (List ℕ)). TakesBefore l rest faults.InputTooLong (at_list before number) after) (has input e) h))
+  first_of_too_many : TakesBefore left rest faults.InputTooLong (at_list before number) after
+      → ReadsFirst known number name before after
+  first_of_too_many h = (
+    opened,
+    λ input e. first_taken_of_too_many input rest (at_list before number) after (subst
+        (λ (l : Option (List ℕ)). TakesBefore l rest faults.InputTooLong (at_list before number) after)
+        (has input e) h),
+  )
 
-  all_of : ((input : List ℕ) → left ≡ Some input → TakesLines (at_list before number) (lines input) after) → ReadsFirst known number name before after
+  all_of : ((input : List ℕ) → left ≡ Some input → TakesLines (at_list before number) (lines input) after)
+      → ReadsFirst known number name before after
   all_of taken = (opened, λ input f. (lines input, [], sym (append-nil (lines input)), taken input (has input f)))
 
   too_many : TakesBefore left rest faults.InputTooLong (at_list before number) after → FailsReading known name
-  too_many h = inr (λ input e. many_read input h.0 rest (subst (λ (l : Option (List ℕ)). Consumes l rest h.0) (has input e) h.2) h.3)
+  too_many h = inr (λ input e. many_read input h.0 rest
+      (subst (λ (l : Option (List ℕ)). Consumes l rest h.0) (has input e) h.2) h.3)
 
   -- how the reading of the list ended, if it stopped
   one_stopped : (read : Result (Unit {0}) RunFault) (out : Bool) → (ended_by_read read ≡ true → known.may_fail name)
@@ -41,15 +44,19 @@ module _ (known : KnownLists) (number : ℕ) (name : List ℕ) (before after : R
       → IfErr (end_of read number out) (λ fault. StopsAt known number name before fault after.refused)
   one_stopped (Ok done) false fails taken stopped e = tt
   one_stopped (Ok done) true fails taken stopped e = (after, all_of taken, sym e, refl)
-  one_stopped (Err faults.Read) false fails taken stopped e = (refl, inl (fails refl), after, first_of stopped, sym e, refl)
+  one_stopped (Err faults.Read) false fails taken stopped e =
+      (refl, inl (fails refl), after, first_of stopped, sym e, refl)
   one_stopped (Err faults.Read) true fails taken stopped e = (after, first_of stopped, sym e, refl)
-  one_stopped (Err faults.InputTooLong) false fails taken stopped e = (refl, too_many stopped, after, first_of_too_many stopped, sym e, refl)
+  one_stopped (Err faults.InputTooLong) false fails taken stopped e =
+      (refl, too_many stopped, after, first_of_too_many stopped, sym e, refl)
   one_stopped (Err faults.InputTooLong) true fails taken stopped e = (after, first_of_too_many stopped, sym e, refl)
   one_stopped (Err faults.Write) out fails taken stopped e = absurd stopped
 
-  pub read_stopped : (read : Result (Unit {0}) RunFault) (out : Bool) (result : Result (Unit {0}) ReadFault) → result ≡ end_of read number out → (ended_by_read read ≡ true → known.may_fail name)
+  pub read_stopped : (read : Result (Unit {0}) RunFault) (out : Bool) (result : Result (Unit {0}) ReadFault)
+      → result ≡ end_of read number out → (ended_by_read read ≡ true → known.may_fail name)
       → OnOk read ((input : List ℕ) → left ≡ Some input → TakesLines (at_list before number) (lines input) after)
       → IfErr read (λ fault. TakesBefore left rest fault (at_list before number) after) → out ≡ after.is_out_of_memory
       → IfErr result (λ fault. StopsAt known number name before fault after.refused)
   read_stopped read out result ends fails taken stopped e =
-      subst (λ (r : Result (Unit {0}) ReadFault). IfErr r (λ fault. StopsAt known number name before fault after.refused)) (sym ends) (one_stopped read out fails taken stopped e)
+      subst (λ (r : Result (Unit {0}) ReadFault). IfErr r (λ fault. StopsAt known number name before fault
+      after.refused)) (sym ends) (one_stopped read out fails taken stopped e)

@@ -1,34 +1,7 @@
 -- The texts of addresses and of networks hold no `-`, no blank, and no mark of a comment.
-use Rattle.std.proofs.Common.{◌≡◌, ◌≢◌, ◌||◌, ◌+◌, ◌-◌, ◌≤◌, ◌<◌, ◌⊎◌, ◌↔◌, inl, inr, ℕ, zero, suc, cond, not, Bool, true, false, List, [], ◌∷◌, ◌++◌, length, take, drop, get_or, refl, sym, ap, subst, ◌∙◌, arith, length-append}
-use Rattle.std.specs.Prelude.{Option, None, Some, Ok}
-use Rattle.std.specs.List.{AllByRecursion, before_first, after_first, position_or_len, prefix_len, suffix_len}
-use Rattle.std.specs.Fmt.{digits}
-use Rattle.std.specs.Str.Parse.{AllDigits}
-use Rattle.std.proofs.lemmas.Bool.{ne_eqb}
-use Rattle.std.proofs.lemmas.List.{take_all}
-use Rattle.std.proofs.Math.Seq.{take-append_seam, drop-append-add}
-use Rattle.std.proofs.lemmas.List.Sums.{suffix_len_is}
-use Rattle.std.proofs.lemmas.Str.Parse.{digit_from_value}
-use Rattle.ipnetwork_addr.specs.Either.{NamesIp}
-use Rattle.ipnetwork_addr.specs.Texts.{IsAddressByte, Digit, UpperHex, LowerHex, Dot, Colon}
-use Rattle.ipnetwork_addr.specs.Ipv4Text.{NamesV4}
-use Rattle.ipnetwork_addr.specs.Computed.Ipv4Text.{v4_of}
-use Rattle.ipnetwork_addr.specs.Ipv6Text.{NamesV6}
-use Rattle.ipnetwork_addr.specs.Computed.Ipv6Text.{v6_of, gap_below}
-use Rattle.ipnetwork_addr.specs.declared.ip.IpAddr.{IpAddr}
-use Rattle.ipnetwork_addr.specs.declared.ip.IpAddr.TheVariants as addresses
-use Rattle.ipnetwork_family.specs.Network.{Network}
-use Rattle.ipnetwork_family.specs.NetworkText.{slash, NamesNetwork, Alone, Suffixed}
-use Rattle.ipnetwork_family.specs.PrefixNumber.{IsPrefixNumber}
-use Rattle.ipnetwork_family.specs.Ipv4NetworkText.{IsV4Suffix}
-use Rattle.ipnetwork_family.specs.Ipv6NetworkText.{IsV6Suffix}
-use Rattle.ipnetwork.specs.IpNetworkText.{NamesIpNetwork}
-use Rattle.ipnetwork.specs.declared.ip_network.IpNetwork.{IpNetwork}
+use Rattle.lists.proofs.Words.{◌≡◌, ◌≢◌, ◌||◌, ◌+◌, ◌-◌, ◌≤◌, ◌<◌, ◌⊎◌, ◌↔◌, inl, inr, ℕ, zero, suc, cond, not, Bool, true, false, List, [], ◌∷◌, ◌++◌, length, take, drop, get_or, refl, sym, ap, subst, ◌∙◌, arith, length-append, Option, None, Some, Ok, AllByRecursion, position_or_len, prefix_len, suffix_len, digits, AllDigits, ne_eqb, take_all, suffix_len_is, digit_from_value, IsAddressByte, Digit, UpperHex, LowerHex, Dot, Colon, NamesV4, v4_of, NamesV6, v6_of, gap_below, Network, slash, NamesNetwork, Alone, Suffixed, IsPrefixNumber, IsV4Suffix, IsV6Suffix, NamesIpNetwork, IpNetwork, is_blank, begins_comment, trimmed, without_end, is_dash, HasDash, NamesEntry, entry_text, ReadsEntry, NetworkTextsAreEntries}
 use Rattle.ipnetwork.specs.declared.ip_network.IpNetwork.TheVariants as networks
-use Rattle.lists.specs.Lines.{is_blank, begins_comment, trimmed, without_end}
-use Rattle.lists.specs.Entries.{is_dash, HasDash, NamesEntry, entry_text, ReadsEntry, IsRange}
 use Rattle.lists.specs.declared.entry.Entry.TheVariants as entries
-use Rattle.lists.specs.Laws.{NetworkTextsAreEntries, AddressTextsAreRanges}
 
 -- ---- bytes
 
@@ -90,15 +63,18 @@ number_plain text value h = go h.spelled
   where
     go : ((text ≡ h.digits) ⊎ (text ≡ 43 ∷ h.digits)) → AllByRecursion IsPlain text
     go (inl e) = subst (AllByRecursion IsPlain) (sym e) (digits_plain h.digits h.numeral.digits.1)
-    go (inr e) = subst (AllByRecursion IsPlain) (sym e) (plain 43 (omega arith) (λ e. omega arith) (λ e. omega arith), digits_plain h.digits h.numeral.digits.1)
+    go (inr e) = subst (AllByRecursion IsPlain) (sym e)
+        (plain 43 (omega arith) (λ e. omega arith) (λ e. omega arith), digits_plain h.digits h.numeral.digits.1)
 
 -- what the laws say of the texts of addresses: they hold bytes of addresses alone, and are not empty
 pub record AreAddressTexts (Names : List ℕ → ℕ → Type 0) : Type 0 where
   pub bytes : (text : List ℕ) (address : ℕ) → Names text address → AllByRecursion IsAddressByte text
   pub some : (text : List ℕ) (address : ℕ) → Names text address → text ≢ []
 
-address_plain : (Names : List ℕ → ℕ → Type 0) → AreAddressTexts Names → (text : List ℕ) (address : ℕ) → Names text address → AllByRecursion IsPlain text
-address_plain Names texts text address named = all_as IsAddressByte IsPlain of_address text (texts.bytes text address named)
+address_plain : (Names : List ℕ → ℕ → Type 0) → AreAddressTexts Names → (text : List ℕ) (address : ℕ)
+    → Names text address → AllByRecursion IsPlain text
+address_plain Names texts text address named =
+    all_as IsAddressByte IsPlain of_address text (texts.bytes text address named)
 
 not_empty : (a : List ℕ) (x : ℕ) (b : List ℕ) → (a ++ x ∷ b) ≢ []
 not_empty a x b e = absurd (omega (arith, ap length e, length-append a (x ∷ b)))
@@ -106,10 +82,12 @@ not_empty a x b e = absurd (omega (arith, ap length e, length-append a (x ∷ b)
 network_plain : (w : ℕ) (Names IsSuffix : List ℕ → ℕ → Type 0) → AreAddressTexts Names
     → ((text : List ℕ) (p : ℕ) → IsSuffix text p → AllByRecursion IsPlain text)
     → (text : List ℕ) (n : Network) → NamesNetwork w Names IsSuffix text n → AllByRecursion IsPlain text × (text ≢ [])
-network_plain w Names IsSuffix texts suffixes text n (Alone named width) = (address_plain Names texts text n.address named, texts.some text n.address named)
+network_plain w Names IsSuffix texts suffixes text n (Alone named width) =
+    (address_plain Names texts text n.address named, texts.some text n.address named)
 network_plain w Names IsSuffix texts suffixes text n (Suffixed address suffix split named given) =
     let plain_slash = plain slash (omega arith) (λ e. omega arith) (λ e. omega arith) in
-    let all = all_append IsPlain address (slash ∷ suffix) (address_plain Names texts address n.address named) (plain_slash, suffixes suffix n.prefix given) in
+    let all = all_append IsPlain address (slash ∷ suffix) (address_plain Names texts address n.address named)
+    (plain_slash, suffixes suffix n.prefix given) in
     (subst (AllByRecursion IsPlain) (sym split) all, λ empty. not_empty address slash suffix (sym split ∙ empty))
 
 v4_suffix_plain : AreAddressTexts NamesV4 → (text : List ℕ) (p : ℕ) → IsV4Suffix text p → AllByRecursion IsPlain text
@@ -119,16 +97,8 @@ v4_suffix_plain texts text p (fits, inr mask) = address_plain NamesV4 texts text
 v6_suffix_plain : (text : List ℕ) (p : ℕ) → IsV6Suffix text p → AllByRecursion IsPlain text
 v6_suffix_plain text p (fits, number) = number_plain text p number
 
--- ---- what is left of a line of such bytes
-
--- a text none of whose bytes passes, before another
-passed : (p : ℕ → Bool) (P : ℕ → Type 0) → ((x : ℕ) → P x → p x ≡ false) → (a b : List ℕ) → AllByRecursion P a
-    → position_or_len p (a ++ b) ≡ length a + position_or_len p b
-passed p P fails [] b h = omega arith
-passed p P fails (x ∷ a) b h =
-    ap (λ v. cond (not v) (1 + position_or_len p (a ++ b)) 0) (fails x h.0) ∙ (omega (arith, passed p P fails a b h.1))
-
-absent : (p : ℕ → Bool) (P : ℕ → Type 0) → ((x : ℕ) → P x → p x ≡ false) → (text : List ℕ) → AllByRecursion P text → position_or_len p text ≡ length text
+absent : (p : ℕ → Bool) (P : ℕ → Type 0) → ((x : ℕ) → P x → p x ≡ false) → (text : List ℕ) → AllByRecursion P text
+    → position_or_len p text ≡ length text
 absent p P fails [] h = refl
 absent p P fails (x ∷ text) h =
     ap (λ v. cond (not v) (1 + position_or_len p text) 0) (fails x h.0) ∙ (omega (arith, absent p P fails text h.1))
@@ -139,7 +109,8 @@ no_front (x ∷ text) h = ap (λ v. cond v (1 + prefix_len is_blank text) 0) h.0
 
 no_end : (text : List ℕ) → AllByRecursion IsQuiet text → suffix_len is_blank text ≡ 0
 no_end text h =
-    let last = suffix_len_is is_blank text (length text) 0 (omega arith) (λ k above below. absurd (omega (arith, above, below)))
+    let last = suffix_len_is is_blank text (length text) 0 (omega arith)
+    (λ k above below. absurd (omega (arith, above, below)))
     (λ some. (all_at IsQuiet text (length text - 1) 0 h (omega (arith, some))).0) in
     omega (arith, last)
 
@@ -151,7 +122,8 @@ trimmed_is text h =
 
 entry_text_is : (text : List ℕ) → AllByRecursion IsQuiet text → entry_text text ≡ text
 entry_text_is text h =
-    ap trimmed (ap (λ n. take n text) (absent begins_comment IsQuiet (λ x q. q.1) text h) ∙ take_all (length text) text (omega arith))
+    ap trimmed (ap (λ n. take n text) (absent begins_comment IsQuiet (λ x q. q.1) text h)
+    ∙ take_all (length text) text (omega arith))
     ∙ trimmed_is text h
 
 plain_is_quiet : (text : List ℕ) → AllByRecursion IsPlain text → AllByRecursion IsQuiet text
@@ -159,50 +131,38 @@ plain_is_quiet text all = all_as IsPlain IsQuiet (λ x h. h.1) text all
 
 -- ---- the laws
 
-network_entry : (text : List ℕ) (n : IpNetwork) → NamesIpNetwork text n → AllByRecursion IsPlain text × (text ≢ []) → ReadsEntry text (Ok (Some (entries.Network n)))
+network_entry : (text : List ℕ) (n : IpNetwork) → NamesIpNetwork text n → AllByRecursion IsPlain text × (text ≢ [])
+    → ReadsEntry text (Ok (Some (entries.Network n)))
 network_entry text n named (all, some) =
-    let no_dash : ¬ (HasDash text) = λ dash. absurd (omega (arith, dash, absent is_dash IsPlain (λ x h. h.0) text all)) in
-    subst (λ t. (t ≢ []) × NamesEntry t (entries.Network n)) (sym (entry_text_is text (plain_is_quiet text all))) (some, (no_dash, named))
+    let no_dash : ¬ (HasDash text) =
+    λ dash. absurd (omega (arith, dash, absent is_dash IsPlain (λ x h. h.0) text all)) in
+    subst (λ t. (t ≢ []) × NamesEntry t (entries.Network n)) (sym (entry_text_is text (plain_is_quiet text all)))
+    (some, (no_dash, named))
 
 pub network_texts : AreAddressTexts NamesV4 → AreAddressTexts NamesV6 → NetworkTextsAreEntries
-network_texts v4 v6 text (networks.V4 n) named = network_entry text (networks.V4 n) named (network_plain 32 NamesV4 IsV4Suffix v4 (v4_suffix_plain v4) text n named)
-network_texts v4 v6 text (networks.V6 n) named = network_entry text (networks.V6 n) named (network_plain 128 NamesV6 IsV6Suffix v6 v6_suffix_plain text n named)
-
-ip_plain : AreAddressTexts NamesV4 → AreAddressTexts NamesV6 → (text : List ℕ) (a : IpAddr) → NamesIp text a → AllByRecursion IsPlain text
-ip_plain v4 v6 text (addresses.V4 a) named = address_plain NamesV4 v4 text a named
-ip_plain v4 v6 text (addresses.V6 a) named = address_plain NamesV6 v6 text a named
-
-range_entry : (before after : List ℕ) → AllByRecursion IsPlain before → AllByRecursion IsPlain after → (first last : IpAddr)
-    → NamesIp before first → NamesIp after last → IsRange first last → ReadsEntry (before ++ 45 ∷ after) (Ok (Some (entries.Range first last)))
-range_entry before after front back first last names_first names_last range =
-    let text = before ++ 45 ∷ after in
-    let place : position_or_len is_dash text ≡ length before = passed is_dash IsPlain (λ x h. h.0) before (45 ∷ after) front ∙ (omega arith) in
-    let dash : HasDash text = omega (arith, place, length-append before (45 ∷ after)) in
-    let left : trimmed (before_first is_dash text) ≡ before =
-    ap (λ n. trimmed (take n text)) place ∙ ap trimmed (take-append_seam before (45 ∷ after)) ∙ trimmed_is before (plain_is_quiet before front) in
-    let right : trimmed (after_first is_dash text) ≡ after =
-    ap (λ n. trimmed (drop (n + 1) text)) place ∙ ap trimmed (drop-append-add before (45 ∷ after) 1) ∙ trimmed_is after (plain_is_quiet after back) in
-    let names : NamesEntry text (entries.Range first last) =
-    (dash, (subst (λ t. NamesIp t first) (sym left) names_first, subst (λ t. NamesIp t last) (sym right) names_last), range) in
-    let quiets : AllByRecursion IsQuiet text = all_append IsQuiet before (45 ∷ after) (plain_is_quiet before front) ((refl, refl), plain_is_quiet after back) in
-    subst (λ t. (t ≢ []) × NamesEntry t (entries.Range first last)) (sym (entry_text_is text quiets)) (not_empty before 45 after, names)
-
-pub address_ranges : AreAddressTexts NamesV4 → AreAddressTexts NamesV6 → AddressTextsAreRanges
-address_ranges v4 v6 before after first last names_first names_last range =
-    range_entry before after (ip_plain v4 v6 before first names_first) (ip_plain v4 v6 after last names_last) first last names_first names_last range
+network_texts v4 v6 text (networks.V4 n) named =
+    network_entry text (networks.V4 n) named (network_plain 32 NamesV4 IsV4Suffix v4 (v4_suffix_plain v4) text n named)
+network_texts v4 v6 text (networks.V6 n) named =
+    network_entry text (networks.V6 n) named (network_plain 128 NamesV6 IsV6Suffix v6 v6_suffix_plain text n named)
 
 -- a text that a computed reading takes is not empty, where that takes no empty text
-none_empty : (Names : List ℕ → ℕ → Type 0) (value : List ℕ → Option ℕ) → ((text : List ℕ) (address : ℕ) → Names text address → value text ≡ Some address) → value [] ≡ None
+none_empty : (Names : List ℕ → ℕ → Type 0) (value : List ℕ → Option ℕ)
+    → ((text : List ℕ) (address : ℕ) → Names text address → value text ≡ Some address) → value [] ≡ None
     → (text : List ℕ) (address : ℕ) → Names text address → text ≢ []
-none_empty Names value computed none text address named empty = absurd (none_some (sym none ∙ ap value (sym empty) ∙ computed text address named))
+none_empty Names value computed none text address named empty =
+    absurd (none_some (sym none ∙ ap value (sym empty) ∙ computed text address named))
   where
     none_some : {a : ℕ} → ¬ (None ≡ Some a)
     none_some e = cc
 
-pub v4_texts : ((text : List ℕ) (address : ℕ) → NamesV4 text address → AllByRecursion IsAddressByte text) → ((text : List ℕ) (address : ℕ) → NamesV4 text address ↔ (v4_of text ≡ Some address)) → AreAddressTexts NamesV4
+pub v4_texts : ((text : List ℕ) (address : ℕ) → NamesV4 text address → AllByRecursion IsAddressByte text)
+    → ((text : List ℕ) (address : ℕ) → NamesV4 text address ↔ (v4_of text ≡ Some address)) → AreAddressTexts NamesV4
 unfolding digits
-v4_texts bytes computed = record { bytes = bytes; some = none_empty NamesV4 v4_of (λ text address. (computed text address).0) refl }
+v4_texts bytes computed =
+    record { bytes = bytes; some = none_empty NamesV4 v4_of (λ text address. (computed text address).0) refl }
 
-pub v6_texts : ((text : List ℕ) (address : ℕ) → NamesV6 text address → AllByRecursion IsAddressByte text) → ((text : List ℕ) (address : ℕ) → NamesV6 text address ↔ (v6_of text ≡ Some address)) → AreAddressTexts NamesV6
+pub v6_texts : ((text : List ℕ) (address : ℕ) → NamesV6 text address → AllByRecursion IsAddressByte text)
+    → ((text : List ℕ) (address : ℕ) → NamesV6 text address ↔ (v6_of text ≡ Some address)) → AreAddressTexts NamesV6
 unfolding digits v6_of gap_below
-v6_texts bytes computed = record { bytes = bytes; some = none_empty NamesV6 v6_of (λ text address. (computed text address).0) refl }
+v6_texts bytes computed =
+    record { bytes = bytes; some = none_empty NamesV6 v6_of (λ text address. (computed text address).0) refl }

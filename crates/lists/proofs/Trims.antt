@@ -1,22 +1,20 @@
 -- Comments.
-use Rattle.std.proofs.Common.{◌≡◌, ◌==◌, ◌||◌, ◌+◌, ℕ, suc, cond, not, Bool, true, false, List, [], ◌∷◌, length, take, arith, sym, ap, ◌∙◌, refl}
-use Rattle.std.specs.List.{before_first, position_or_len}
-use Rattle.std.proofs.lemmas.Bool.{eq-eqb, ne_eqb}
-use Rattle.std.proofs.lemmas.List.{take_all}
-use Rattle.std.proofs.lemmas.List.Sums.{position_or_len_is}
-use Rattle.byte_search.specs.Bytes.{IsAbsent, IsNext}
-use Rattle.lists.specs.Lines.{begins_comment, before_comment}
+use Rattle.lists.proofs.Words.{◌≡◌, ◌==◌, ◌||◌, ◌+◌, ℕ, suc, cond, not, Bool, true, false, List, [], ◌∷◌, length, take, arith, sym, ap, ◌∙◌, refl, before_first, position_or_len, eq-eqb, ne_eqb, take_all, position_or_len_is, IsAbsent, IsNext, begins_comment, before_comment}
 
 -- no byte of this value
-pub none_before : (byte : ℕ) (text : List ℕ) → IsAbsent byte text 0 (length text) → text ≡ before_first (λ other. other == byte) text
+pub none_before : (byte : ℕ) (text : List ℕ) → IsAbsent byte text 0 (length text)
+    → text ≡ before_first (λ other. other == byte) text
 none_before byte text absent =
-    let place = position_or_len_is (λ other. other == byte) text (length text) 0 (omega arith) (λ k below. ne_eqb _ _ (absent k (omega arith) below)) (λ past. absurd (omega (arith, past))) in
+    let place = position_or_len_is (λ other. other == byte) text (length text) 0 (omega arith)
+    (λ k below. ne_eqb _ _ (absent k (omega arith) below)) (λ past. absurd (omega (arith, past))) in
     sym (ap (λ n. take n text) place ∙ take_all (length text) text (omega arith))
 
 -- the first of this value
-pub found_before : (byte : ℕ) (text : List ℕ) (at : ℕ) → IsNext byte text 0 at → take at text ≡ before_first (λ other. other == byte) text
+pub found_before : (byte : ℕ) (text : List ℕ) (at : ℕ) → IsNext byte text 0 at
+    → take at text ≡ before_first (λ other. other == byte) text
 found_before byte text at next =
-    let place = position_or_len_is (λ other. other == byte) text at 0 (omega (arith, next.within)) (λ k below. ne_eqb _ _ (next.between k (omega arith) below)) (λ within. eq-eqb _ _ next.there) in
+    let place = position_or_len_is (λ other. other == byte) text at 0 (omega (arith, next.within))
+    (λ k below. ne_eqb _ _ (next.between k (omega arith) below)) (λ within. eq-eqb _ _ next.there) in
     sym (ap (λ n. take n text) place)
 
 ends_here : (p : ℕ → Bool) (x : ℕ) (xs : List ℕ) → p x ≡ true → before_first p (x ∷ xs) ≡ []
@@ -28,14 +26,17 @@ goes_on p x xs e =
     ap (λ v. take (cond (not v) (1 + position_or_len p xs) 0) (x ∷ xs)) e ∙ ap (λ n. take n (x ∷ xs)) one
 
 -- before the first of either value
-pub before_either : (line : List ℕ) → before_first (λ other. other == 59) (before_first (λ other. other == 35) line) ≡ before_comment line
+pub before_either : (line : List ℕ)
+    → before_first (λ other. other == 59) (before_first (λ other. other == 35) line) ≡ before_comment line
 before_either [] = refl
 before_either (x ∷ xs) = go (before_either xs) (x == 35) refl (x == 59) refl
   where
     go : before_first (λ other. other == 59) (before_first (λ other. other == 35) xs) ≡ before_comment xs
-        → (a : Bool) → (x == 35) ≡ a → (b : Bool) → (x == 59) ≡ b → before_first (λ other. other == 59) (before_first (λ other. other == 35) (x ∷ xs)) ≡ before_comment (x ∷ xs)
+        → (a : Bool) → (x == 35) ≡ a → (b : Bool) → (x == 59) ≡ b → before_first (λ other. other == 59)
+        (before_first (λ other. other == 35) (x ∷ xs)) ≡ before_comment (x ∷ xs)
     go later true hash b other =
-        ap (before_first (λ other. other == 59)) (ends_here (λ other. other == 35) x xs hash) ∙ sym (ends_here begins_comment x xs (ap (λ v. v || x == 59) hash))
+        ap (before_first (λ other. other == 59)) (ends_here (λ other. other == 35) x xs hash)
+        ∙ sym (ends_here begins_comment x xs (ap (λ v. v || x == 59) hash))
     go later false hash true semicolon =
         ap (before_first (λ other. other == 59)) (goes_on (λ other. other == 35) x xs hash)
         ∙ ends_here (λ other. other == 59) x (before_first (λ other. other == 35) xs) semicolon

@@ -1,13 +1,12 @@
 -- What the lines of lists name, and what is taken of them.
-use Rattle.std.specs.Prelude.{◌≡◌, ℕ, ◌+◌, ◌-◌, ◌^◌, ◌↔◌, ◌⊎◌, ◌≤◌, Bool, true, false, List, [], ◌∷◌, Option, None}
-use Rattle.std.specs.Prelude.{Some, Result, Ok, Err, min, length}
-use Rattle.std.specs.List.{Contains}
+use Rattle.std.specs.Prelude.{◌≡◌, ℕ, ◌+◌, ◌-◌, ◌^◌, ◌↔◌, ◌⊎◌, Bool, true, false, List, [], ◌∷◌, Option, None}
+use Rattle.std.specs.Prelude.{Some, Result, Ok, Err, min}
 use Rattle.ipnetwork_addr.specs.declared.ip.IpAddr.{IpAddr}
 use Rattle.ipnetwork_addr.specs.declared.ip.IpAddr.TheVariants.{V4, V6}
 use Rattle.ipnetwork_family.specs.Network.{Network}
 use Rattle.ipnetwork.specs.IpNetworks.{IpMember}
 use Rattle.ipnetwork_blocks.specs.Aggregate.{InUnion}
-use Rattle.lines.specs.Parts.{asked}
+use Rattle.lines.specs.Beginnings.{asked}
 use Rattle.lists.specs.Entries.{IsRange, ReadsEntry}
 use Rattle.lists.specs.declared.entry.Entry.{Entry}
 use Rattle.lists.specs.declared.entry.Entry.TheVariants as entries
@@ -99,17 +98,3 @@ abbrev pub TakesLines : ReadLists → List (List ℕ) → ReadLists → Type 0
 TakesLines before [] after = after ≡ before
 TakesLines before (line ∷ lines) after = (between : ReadLists) × Takes before (asked 1024 line) between
     × TakesLines between lines after
-
--- the line has at most 1,024 bytes, and its entry names the address
-abbrev pub LineNames : List ℕ → IpAddr → Type 0
-LineNames line a = (entry : Entry) × (length line ≤ 1024) × ReadsEntry line (Ok (Some entry)) × Names entry a
-
--- one of the lines names the address
-abbrev pub LinesName : List (List ℕ) → IpAddr → Type 0
-LinesName lines a = (line : List ℕ) × Contains lines line × LineNames line a
-
--- lines that are taken add the addresses that they name, and no others, unless memory runs out
-abbrev pub LinesAddWhatTheyName : Type 0
-LinesAddWhatTheyName = (before after : ReadLists) (lines : List (List ℕ)) → TakesLines before lines after
-    → after.is_out_of_memory ≡ false
-    → (a : IpAddr) → HasAddress after a ↔ (HasAddress before a ⊎ LinesName lines a)

@@ -1,7 +1,7 @@
 -- What the private functions promise one another.
 pub mod Bytes
 pub mod Documents
-pub mod Parts
+pub mod Kinds
 pub mod Readings
 pub mod Taking
 pub mod Waiting

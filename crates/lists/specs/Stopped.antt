@@ -2,7 +2,7 @@
 use Rattle.std.specs.Prelude.{ℕ, ◌-◌, ◌^◌, ◌<◌, List, length, Option}
 use Rattle.std.specs.Io.KnownBytes.{Consumes}
 use Rattle.std.specs.Str.Lines.{lines}
-use Rattle.lines.specs.Parts.{complete_part, IsBeginning}
+use Rattle.lines.specs.Beginnings.{complete_part, IsBeginning}
 use Rattle.lines.specs.declared.fault.RunFault.{RunFault}
 use Rattle.lines.specs.declared.fault.RunFault.TheVariants.{Read, Write, InputTooLong}
 use Rattle.lists.specs.Lists.{ReadLists, TakesLines}

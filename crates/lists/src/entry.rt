@@ -2,7 +2,7 @@
 ghost use Rattle.std.specs.Prelude.{◌≡◌};
 ghost use Rattle.lists.specs.Entries.{ReadsEntry, ReadsText, told_cause};
 ghost use Rattle.lists.specs.Faults.{entry_fault_text};
-ghost use Rattle.lists.specs.Private.Parts.{ReadsNetworkText, ReadsPlain};
+ghost use Rattle.lists.specs.Private.Kinds.{ReadsNetworkText, ReadsPlain};
 
 use crate::comment::without_comment;
 use crate::encoding::{Encoding, encoding_of};

@@ -9,7 +9,7 @@ use crate::EntryFault;
 /// ```
 /// let mut lists = ListReader::new(rt.alloc(), Refusals::new());
 /// read_list(&mut lists, 1, &mut lines::watched::Watched::new(b"10.0.0.0/33".as_slice()))?;
-/// let (_, _, refusals) = lists.into_sets();
+/// let (_, _, refusals) = lists.into_networks();
 /// assert_eq!(rt; refusals.kept()[0].fault, LineFault::Entry(EntryFault::Prefix));
 /// ```
 #[derive(Clone, Copy, Debug, PartialEq, Eq)]

@@ -11,7 +11,7 @@ mod document;
 mod encoding;
 mod entry;
 mod fault;
-pub mod laws;
+mod laws;
 mod list_reader;
 mod named;
 mod networks;

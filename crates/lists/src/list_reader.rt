@@ -1,6 +1,5 @@
 //! Collects what is read of lists.
 ghost use Rattle.std.specs.Prelude.{◌≡◌, None, OnOk, Some};
-ghost use Rattle.ipnetwork_blocks.specs.Aggregate.{IsAggregate};
 ghost use Rattle.lists.specs.Entries.{IsRange};
 ghost use Rattle.lists.specs.Lists.{nothing_read, at_list, at_next_line, refusing, TakesEntry, Takes};
 ghost use Rattle.lists.specs.Documents.{TakesString};
@@ -12,7 +11,6 @@ use crate::fault::LineFault;
 use crate::networks::Networks;
 use crate::refusals::{Refusal, Refusals};
 use ipnetwork::{IpAddr, IpNetwork, Ipv4Network, Ipv6Network};
-use ipnetwork_sets::AddressSet;
 use std::alloc::{AllocError, Global};
 use std::marker::Model;
 
@@ -26,9 +24,9 @@ use std::marker::Model;
 /// let mut lists = ListReader::new(rt.alloc(), Refusals::new());
 /// read_list(&mut lists, 1, &mut lines::watched::Watched::new(b"10.0.0.0/9\n::1".as_slice()))?;
 /// read_list(&mut lists, 2, &mut lines::watched::Watched::new(b"10.128.0.0/9".as_slice()))?;
-/// let (v4, v6, _) = lists.into_sets();
-/// assert_eq!(rt; v4.blocks(), ["10.0.0.0/8".parse()?].as_slice());
-/// assert_eq!(rt; v6.blocks(), ["::1/128".parse()?].as_slice());
+/// let (v4, v6, _) = lists.into_networks();
+/// assert_eq!(rt; v4.as_slice(), ["10.0.0.0/9".parse()?, "10.128.0.0/9".parse()?].as_slice());
+/// assert_eq!(rt; v6.as_slice(), ["::1/128".parse()?].as_slice());
 /// ```
 #[derive(Debug, Drop)]
 pub struct ListReader {
@@ -62,7 +60,7 @@ impl ListReader {
     ///
     /// ```
     /// let lists = ListReader::new(rt.alloc(), Refusals::new());
-    /// let (v4, v6, refusals) = lists.into_sets();
+    /// let (v4, v6, refusals) = lists.into_networks();
     /// assert!(rt; v4.is_empty() && v6.is_empty() && refusals.is_empty());
     /// ```
     pub fn new(alloc: Global, refusals: Refusals) -> ListReader
@@ -97,23 +95,6 @@ impl ListReader {
         ensures { result ≡ self.now.is_out_of_memory }
     {
         self.is_out_of_memory
-    }
-
-    /// Returns the set of the addresses of each family, and the refused lines.
-    ///
-    /// ```
-    /// let mut lists = ListReader::new(rt.alloc(), Refusals::new());
-    /// read_list(&mut lists, 1, &mut lines::watched::Watched::new(b"192.0.2.4-192.0.2.7".as_slice()))?;
-    /// let (v4, _, refusals) = lists.into_sets();
-    /// assert_eq!(rt; v4.blocks(), ["192.0.2.4/30".parse()?].as_slice());
-    /// assert!(rt; refusals.is_empty());
-    /// ```
-    pub fn into_sets(self) -> (AddressSet<Ipv4Network>, AddressSet<Ipv6Network>, Refusals)
-        ensures v4 { IsAggregate 32 self.v4 result.0 }
-        ensures v6 { IsAggregate 128 self.v6 result.1 }
-        ensures refused { result.2 ≡ self.refused }
-    {
-        (self.v4.into_set(), self.v6.into_set(), self.refusals)
     }
 
     /// Returns the networks of each family, in the order in which they were read, and the refused

@@ -75,8 +75,8 @@ pub fn read_named<L: OpenLists>(
 /// ```
 /// let mut reader = lists::ListReader::new(rt.alloc(), lists::Refusals::new());
 /// assert_eq!(rt; lists::read_text("10.0.0.0/8", 1, &mut reader), Ok(()));
-/// let (v4, _, _) = reader.into_sets();
-/// assert_eq!(rt; v4.blocks().len(), 1);
+/// let (v4, _, _) = reader.into_networks();
+/// assert_eq!(rt; v4.len(), 1);
 /// ```
 pub fn read_text(text: &str, place: usize, reader: &mut ListReader) -> Result<(), ReadFault>
     ensures read { OnOk result (TakesLines (at_list reader.old place) (lines text.now) reader.new) }

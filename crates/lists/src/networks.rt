@@ -1,10 +1,8 @@
 //! Networks of one family, in the order in which they were read.
 ghost use Rattle.std.specs.Prelude.{◌≡◌, ◌++◌, ◌∷◌, ◌<◌, ◌≤◌, ◌^◌, [], map, OnOk};
-ghost use Rattle.ipnetwork_blocks.specs.Aggregate.{IsAggregate};
 ghost use Rattle.lists.specs.Added.{AddsBlocks};
 
 use ipnetwork_blocks::{AddressSpace, range_to_blocks};
-use ipnetwork_sets::AddressSet;
 use std::alloc::{AllocError, Global};
 use std::marker::Model;
 
@@ -65,12 +63,5 @@ impl<N: AddressSpace> Networks<N> {
         ensures { map N.pair result.items ≡ self }
     {
         self.networks
-    }
-
-    /// Returns the set of their addresses, in the memory of the networks.
-    pub(crate) fn into_set(self) -> AddressSet<N>
-        ensures { IsAggregate N.WIDTH self result }
-    {
-        AddressSet::from_networks(self.networks)
     }
 }

@@ -1,6 +1,6 @@
 //! Reads a range of addresses.
 ghost use Rattle.lists.specs.Entries.{IsRange};
-ghost use Rattle.lists.specs.Private.Parts.{ReadsRange};
+ghost use Rattle.lists.specs.Private.Kinds.{ReadsRange};
 ghost use Rattle.std.specs.Prelude.{◌↔◌, ◌≡◌, IsTrue, MatchResult};
 
 use crate::entry::{Entry, EntryFault};

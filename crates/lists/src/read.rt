@@ -1,7 +1,7 @@
 //! Reads a list from a device or from a text.
 ghost use Rattle.std.specs.Prelude.{◌≡◌, ◌||◌, ℕ, List, Some, OnOk, IfErr};
 ghost use Rattle.std.specs.Str.Lines.{lines};
-ghost use Rattle.lines.specs.Parts.{asked};
+ghost use Rattle.lines.specs.Beginnings.{asked};
 ghost use Rattle.lines.specs.LineBuffers.{IsPending};
 ghost use Rattle.lines.specs.Faults.{ended_by_read};
 ghost use Rattle.lines.specs.Watched.{device_of, has_failed};
@@ -21,7 +21,7 @@ use std::io::Read;
 /// let line = [b'#'].repeat(rt.alloc(), LINE_MAX + 1)?;
 /// let mut lists = ListReader::new(rt.alloc(), Refusals::new());
 /// read_list(&mut lists, 1, &mut lines::watched::Watched::new(line.as_slice()))?;
-/// assert_eq!(rt; lists.into_sets().2.kept()[0].fault, LineFault::Length);
+/// assert_eq!(rt; lists.into_networks().2.kept()[0].fault, LineFault::Length);
 /// ```
 pub const LINE_MAX: usize = 1024;
 
@@ -39,8 +39,8 @@ const BUFFER_MAX: usize = 65536;
 /// let mut lists = ListReader::new(rt.alloc(), Refusals::new());
 /// let list = b"# private\n10.0.0.0/8\n10.0.0.0/33\n".as_slice();
 /// read_list(&mut lists, 1, &mut lines::watched::Watched::new(list))?;
-/// let (v4, _, refusals) = lists.into_sets();
-/// assert_eq!(rt; v4.blocks(), ["10.0.0.0/8".parse()?].as_slice());
+/// let (v4, _, refusals) = lists.into_networks();
+/// assert_eq!(rt; v4.as_slice(), ["10.0.0.0/8".parse()?].as_slice());
 /// assert_eq!(rt; refusals.kept()[0].line, 3);
 /// ```
 pub fn read_list<R: Read>(

@@ -11,7 +11,7 @@ use std::marker::Model;
 /// let list = b"x\n".repeat(rt.alloc(), 103)?;
 /// let mut lists = ListReader::new(rt.alloc(), Refusals::new());
 /// read_list(&mut lists, 1, &mut lines::watched::Watched::new(list.as_slice()))?;
-/// let (_, _, refusals) = lists.into_sets();
+/// let (_, _, refusals) = lists.into_networks();
 /// assert_eq!(rt; refusals.kept().len(), REFUSALS_MAX);
 /// ```
 pub const REFUSALS_MAX: usize = 100;
@@ -21,7 +21,7 @@ pub const REFUSALS_MAX: usize = 100;
 /// ```
 /// let mut lists = ListReader::new(rt.alloc(), Refusals::new());
 /// read_list(&mut lists, 7, &mut lines::watched::Watched::new(b"10.0.0.1\n10.0.0.256".as_slice()))?;
-/// let (_, _, refusals) = lists.into_sets();
+/// let (_, _, refusals) = lists.into_networks();
 /// let fault = LineFault::Entry(EntryFault::Address);
 /// assert_eq!(rt; refusals.kept()[0], Refusal { list: 7, line: 2, fault });
 /// ```
@@ -42,7 +42,7 @@ pub struct Refusal {
 /// let list = b"x\n".repeat(rt.alloc(), 103)?;
 /// let mut lists = ListReader::new(rt.alloc(), Refusals::new());
 /// read_list(&mut lists, 1, &mut lines::watched::Watched::new(list.as_slice()))?;
-/// let (_, _, refusals) = lists.into_sets();
+/// let (_, _, refusals) = lists.into_networks();
 /// assert_eq!(rt; (refusals.kept().len(), refusals.more()), (100, 3));
 /// ```
 #[derive(Debug, Drop)]
@@ -105,7 +105,7 @@ impl Refusals {
     /// ```
     /// let mut lists = ListReader::new(rt.alloc(), Refusals::new());
     /// read_list(&mut lists, 1, &mut lines::watched::Watched::new(b"1.1.1.1/8/8\nx".as_slice()))?;
-    /// let (_, _, refusals) = lists.into_sets();
+    /// let (_, _, refusals) = lists.into_networks();
     /// assert_eq!(rt; refusals.kept()[0].fault.text(), "format");
     /// assert_eq!(rt; refusals.kept()[1].fault.text(), "address");
     /// ```
@@ -121,7 +121,7 @@ impl Refusals {
     /// let list = b"x\n".repeat(rt.alloc(), 103)?;
     /// let mut lists = ListReader::new(rt.alloc(), Refusals::new());
     /// read_list(&mut lists, 1, &mut lines::watched::Watched::new(list.as_slice()))?;
-    /// let (_, _, refusals) = lists.into_sets();
+    /// let (_, _, refusals) = lists.into_networks();
     /// assert_eq!(rt; refusals.more(), 3);
     /// ```
     pub fn more(&self) -> u64
@@ -135,7 +135,7 @@ impl Refusals {
     /// ```
     /// let mut lists = ListReader::new(rt.alloc(), Refusals::new());
     /// read_list(&mut lists, 1, &mut lines::watched::Watched::new(b"::/129".as_slice()))?;
-    /// let (_, _, refusals) = lists.into_sets();
+    /// let (_, _, refusals) = lists.into_networks();
     /// assert!(rt; Refusals::new().is_empty());
     /// assert!(rt; !refusals.is_empty());
     /// ```

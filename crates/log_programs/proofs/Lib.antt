@@ -1,6 +1,8 @@
-pub mod Failing
 pub mod Handed
-pub mod Lacking
-pub mod LogEnds
-pub mod LogStats
+pub mod InTurn
+pub mod Known
+pub mod LogPrints
+pub mod LogReads
+pub mod LogsInTurn
 pub mod MappedNetworks
+pub mod Words

@@ -1,8 +1,6 @@
 -- Networks as they are looked up.
-use Rattle.std.proofs.Common.{◌≡◌, refl, [], ◌∷◌}
-use Rattle.std.specs.Prelude.{map, true, false}
-use Rattle.ipnetwork.specs.declared.ip_network.IpNetwork.TheVariants.{V4, V6}
-use Rattle.log_programs.specs.Unmapping.{asked_network, unmapped_network}
+use Rattle.log_programs.proofs.Words.{◌≡◌, refl, [], ◌∷◌, V4, V6, asked_network, unmapped_network}
+use Rattle.std.specs.Prelude.{map, false}
 
 -- a network of IPv4-mapped addresses is looked up as the network of their IPv4 addresses; a network that has other
 -- addresses too is not, nor one whose address is not mapped

@@ -1,10 +1,9 @@
 -- What the contracts of this crate cite.
-pub mod Closed
 pub mod Finding
-pub mod Lacking
-pub mod LogEnds
+pub mod InTurn
+pub mod LogReads
 pub mod LogStats
-pub mod Seen
+pub mod LogsInTurn
 pub mod Unmapping
 pub mod WithoutAddress
 pub mod Areas

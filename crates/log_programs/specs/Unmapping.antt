@@ -1,12 +1,13 @@
 -- The network that is looked up for a network of a line.
-use Rattle.std.specs.Prelude.{ℕ, ◌-◌, Bool, nat_le, if◌then◌else◌}
+use Rattle.std.specs.Prelude.{◌-◌, Bool, nat_le, if◌then◌else◌}
 use Rattle.ipnetwork_addr.specs.Either.{unmapped}
 use Rattle.ipnetwork_addr.specs.declared.ip.IpAddr.{IpAddr}
 use Rattle.ipnetwork_addr.specs.declared.ip.IpAddr.TheVariants as addresses
 use Rattle.ipnetwork.specs.IpNetworks.{address_of, made_of, prefix_of}
 use Rattle.ipnetwork.specs.declared.ip_network.IpNetwork.{IpNetwork}
 
--- a network with this address, if its prefix length is at least 96 and the address is the IPv4 address of an IPv4-mapped
+-- a network with this address, if its prefix length is at least 96 and the address is the IPv4 address of an
+-- IPv4-mapped
 -- one, is the network of IPv4 addresses, and else it stays as it is
 abbrev pub unmapped_by : IpNetwork → IpAddr → IpNetwork
 unmapped_by network (addresses.V4 address) =

@@ -1,5 +1,6 @@
 -- What happens to lines without an address, and to lines that are too long.
-use Rattle.std.specs.Prelude.{ℕ, Bool, true, false, List, bytes_eq, codes, if◌then◌else◌}
+use Rattle.std.specs.Prelude.{ℕ, ◌==◌, ◌&&◌, Bool, true, false, not, List, bytes_eq, codes, if◌then◌else◌}
+use Rattle.log_programs.specs.declared.log_stats.LogStats.{LogStats}
 use Rattle.log_programs.specs.declared.without_address.WithoutAddress.{WithoutAddress}
 use Rattle.log_programs.specs.declared.without_address.WithoutAddress.TheVariants as without
 
@@ -22,3 +23,7 @@ bad_in value = if bytes_eq value (codes "drop") then without.Drop
     else if bytes_eq value (codes "keep") then without.Keep
     else if bytes_eq value (codes "stop") then without.Stop
     else if bytes_eq value (codes "report") then without.Report else without.Unsaid
+
+-- a line is missed: a line is too long, and such lines are not dropped
+abbrev pub is_missed : WithoutAddress → LogStats → Bool
+is_missed bad seen = not (is_dropped bad) && not (seen.first_long == 0)

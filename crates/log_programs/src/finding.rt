@@ -9,11 +9,11 @@ use line_addresses::{Area, part_of, picked};
 /// The line is given without its end. Does not allocate.
 ///
 /// ```
-/// use line_addresses::{Area, Part, Pick};
+/// use line_addresses::{Area, Part, Pick, Place};
 /// use log_programs::finding::found_in;
 ///
 /// let line = b"GET 192.0.2.7";
-/// let second = Area { part: Part::Word(2), pick: Pick::Whole };
+/// let second = Area { part: Part::Word(Place::Number(2)), pick: Pick::Whole };
 /// assert_eq!(rt; found_in(&second, line), Some("192.0.2.7".parse()?));
 /// let first = Area { part: Part::Line, pick: Pick::Number(1) };
 /// assert_eq!(rt; found_in(&first, b"10.1.1.1 10.1.1.2"), Some("10.1.1.1".parse()?));

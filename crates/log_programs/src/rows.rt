@@ -106,7 +106,7 @@ const PAIRS: [Pair; 5] = log_pairs![[], []];
 /// assert!(rt; fault.is_some_and(|fault| fault.problem.as_str() == "-w does not go with -d"));
 /// ```
 pub fn shared() -> Table<'static>
-    ensures { IsTable result (shared ++ late_quiet ∷ []) together [] [] }
+    ensures { IsTable result (shared ++ late_quiet ∷ []) together [] }
 {
     Table {
         rows: &ROWS,

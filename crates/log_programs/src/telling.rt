@@ -1,16 +1,11 @@
 //! Reports logs that cannot be opened or have no addresses, and lines that are too long. If a write
 //! fails, nothing else changes.
-ghost use Rattle.std.specs.Prelude.{◌≡◌, ◌++◌, ◌&&◌, [], not, nat_lt, codes, decimal, if◌then◌else◌};
-ghost use Rattle.program.specs.Messages.{Reports};
-ghost use Rattle.program.specs.Usage.{shown};
-ghost use Rattle.log_programs.specs.Closed.{closed_text};
-ghost use Rattle.log_programs.specs.Lacking.{lacking_told, no_address_text, needed, needed_text, part_text};
-ghost use Rattle.log_programs.specs.Seen.{counts_text, is_missed, long_text, seen_text};
-ghost use Rattle.log_programs.specs.WithoutAddress.{is_reported};
+ghost use Rattle.std.specs.Prelude.{◌≡◌};
+ghost use Rattle.log_programs.specs.WithoutAddress.{is_missed};
 
 use crate::log_stats::LogStats;
 use crate::without_address::WithoutAddress;
-use line_addresses::{Area, Part, Pick, Text};
+use line_addresses::{Area, Part, Pick, Place, Text};
 use lines::output::Output;
 use lists::OpenFault;
 use program::log_fault::tell_fault_of;
@@ -22,10 +17,10 @@ use std::io::Write;
 /// area, if the log has lines and none has one.
 ///
 /// ```
-/// use line_addresses::{Area, Part, Pick};
+/// use line_addresses::{Area, Part, Pick, Place};
 /// use log_programs::telling::tell_lacking;
 ///
-/// let area = Area { part: Part::Word(3), pick: Pick::Number(2) };
+/// let area = Area { part: Part::Word(Place::Number(3)), pick: Pick::Number(2) };
 /// let (mut slice, mut room) = ([0; 64], [b'.'; 64]);
 /// let mut errors = lines::output::Output::new(room.as_mut_slice(), &mut slice);
 /// tell_lacking("cidr_filter", &area, "log", 7, false, &mut errors);
@@ -40,28 +35,19 @@ pub fn tell_lacking<E: Write>(
     lines: u64,
     is_addressed: bool,
     errors: &mut Output<'_, E>,
-)
-    ensures { Reports errors.old errors.new
-        (lacking_told program.now area.now name.now lines is_addressed) }
-{
+) {
     if lacks(lines, is_addressed) {
         tell_area(program, area, name, errors);
-    } else {
-        tell("", errors);
     }
 }
 
 // Returns whether there are lines and none has an address.
-fn lacks(lines: u64, is_addressed: bool) -> bool
-    ensures { result ≡ (nat_lt 0 lines && not is_addressed) }
-{
+fn lacks(lines: u64, is_addressed: bool) -> bool {
     lines > 0 && !is_addressed
 }
 
 // Reports that no line of the log of this name has an address in this area.
-fn tell_area<E: Write>(program: &str, area: &Area<'_>, name: &str, errors: &mut Output<'_, E>)
-    ensures { Reports errors.old errors.new (no_address_text program.now area.now name.now) }
-{
+fn tell_area<E: Write>(program: &str, area: &Area<'_>, name: &str, errors: &mut Output<'_, E>) {
     tell_head(program, name, errors);
     tell(": no line has ", errors);
     tell_needed(needed(area.pick), errors);
@@ -70,9 +56,7 @@ fn tell_area<E: Write>(program: &str, area: &Area<'_>, name: &str, errors: &mut 
 }
 
 // Returns how many addresses a part must have for the picked one to exist.
-fn needed(pick: Pick) -> u32
-    ensures { result ≡ needed pick }
-{
+fn needed(pick: Pick) -> u32 {
     match pick {
         Pick::Number(number) => number,
         _ => 1,
@@ -80,9 +64,7 @@ fn needed(pick: Pick) -> u32
 }
 
 // Reports how many addresses are needed.
-fn tell_needed<E: Write>(number: u32, errors: &mut Output<'_, E>)
-    ensures { Reports errors.old errors.new (needed_text number) }
-{
+fn tell_needed<E: Write>(number: u32, errors: &mut Output<'_, E>) {
     if number > 1 {
         tell_number(u64::from(number), errors);
         tell(" addresses ", errors);
@@ -92,29 +74,23 @@ fn tell_needed<E: Write>(number: u32, errors: &mut Output<'_, E>)
 }
 
 // Reports which part of a line is searched.
-fn tell_where<E: Write>(part: &Part<'_>, errors: &mut Output<'_, E>)
-    ensures { Reports errors.old errors.new (part_text part.now) }
-{
+fn tell_where<E: Write>(part: &Part<'_>, errors: &mut Output<'_, E>) {
     match part {
-        Part::Field { number, .. } => tell_nth("in field ", *number, errors),
-        Part::Word(number) => tell_nth("in word ", *number, errors),
+        Part::Field { place, .. } => tell_place("in field ", *place, errors),
+        Part::Word(place) => tell_place("in word ", *place, errors),
         Part::Line => tell("anywhere in it", errors),
         Part::After(text) => tell_after(text, errors),
     }
 }
 
-// Reports a text, and then a number.
-fn tell_nth<E: Write>(text: &str, number: u32, errors: &mut Output<'_, E>)
-    ensures { Reports errors.old errors.new (text.now ++ decimal number) }
-{
+// Reports a text, and then a place.
+fn tell_place<E: Write>(text: &str, place: Place, errors: &mut Output<'_, E>) {
     tell(text, errors);
-    tell_number(u64::from(number), errors);
+    tell(place.text().as_str(), errors);
 }
 
 // Reports the text after which the address is searched.
-fn tell_after<E: Write>(text: &Text<'_>, errors: &mut Output<'_, E>)
-    ensures { Reports errors.old errors.new (codes "after " ++ shown text.now) }
-{
+fn tell_after<E: Write>(text: &Text<'_>, errors: &mut Output<'_, E>) {
     tell("after ", errors);
     tell_shown(text.bytes(), errors);
 }
@@ -160,9 +136,7 @@ pub fn tell_seen<E: Write>(
     bad: WithoutAddress,
     seen: &LogStats,
     errors: &mut Output<'_, E>,
-)
-    ensures { Reports errors.old errors.new (seen_text program.now name.now bad seen.now) }
-{
+) {
     tell_missed(program, name, is_missed(bad, seen), seen.first_long, errors);
     tell_asked(program, name, is_asked(bad, seen.lines), seen, errors);
 }
@@ -185,16 +159,12 @@ pub fn tell_closed<E: Write>(
     name: &str,
     fault: OpenFault,
     errors: &mut Output<'_, E>,
-)
-    ensures { Reports errors.old errors.new (closed_text program.now name.now fault) }
-{
+) {
     tell_fault_of(program, name, fault.text(), errors);
 }
 
 // Returns whether to report how many of these lines have no address.
-fn is_asked(bad: WithoutAddress, lines: u64) -> bool
-    ensures { result ≡ (is_reported bad && nat_lt 0 lines) }
-{
+fn is_asked(bad: WithoutAddress, lines: u64) -> bool {
     bad.is_reported() && lines > 0
 }
 
@@ -205,17 +175,12 @@ fn tell_missed<E: Write>(
     is_missed: bool,
     number: u64,
     errors: &mut Output<'_, E>,
-)
-    ensures { Reports errors.old errors.new
-        (if is_missed then long_text program.now name.now number else []) }
-{
+) {
     if is_missed {
         tell_head(program, name, errors);
         tell(":", errors);
         tell_number(number, errors);
         tell(": line too long\n", errors);
-    } else {
-        tell("", errors);
     }
 }
 
@@ -226,10 +191,7 @@ fn tell_asked<E: Write>(
     is_asked: bool,
     seen: &LogStats,
     errors: &mut Output<'_, E>,
-)
-    ensures { Reports errors.old errors.new
-        (if is_asked then counts_text program.now name.now seen.now else []) }
-{
+) {
     if is_asked {
         tell_head(program, name, errors);
         tell(": lines without an address: ", errors);
@@ -237,7 +199,5 @@ fn tell_asked<E: Write>(
         tell(", too long: ", errors);
         tell_number(seen.long, errors);
         tell("\n", errors);
-    } else {
-        tell("", errors);
     }
 }

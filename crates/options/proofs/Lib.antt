@@ -1,7 +1,7 @@
 -- The lemmas of this crate.
 pub mod Examples
-pub mod Grammar
-pub mod LawExamples
-pub mod OtherWords
+pub mod Known
 pub mod Runs
 pub mod Tables
+pub mod WordExamples
+pub mod Words

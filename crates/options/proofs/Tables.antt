@@ -1,9 +1,8 @@
--- The rows and pairs of a table that is given in definitions, for examples: where their texts stand makes no difference.
-use Rattle.std.specs.Prelude.{ℕ, List, [], ◌∷◌, Option, None, Some, map}
+-- The rows and pairs of a table that is given in definitions, for examples: what is told of wrong words makes no
+-- difference.
+use Rattle.options.proofs.Words.{Option, None, Some, Entry, Pair, Row}
+use Rattle.std.specs.Prelude.{ℕ, List, [], ◌∷◌, map}
 use denote.Bor.{Bor}
-use Rattle.options.specs.Table.{Entry}
-use Rattle.options.specs.declared.table.Pair.{Pair}
-use Rattle.options.specs.declared.table.Row.{Row}
 
 abbrev pub text : List ℕ → Bor (List ℕ)
 text bytes = record { ref_ptr = (0, 0); now = bytes }
@@ -13,13 +12,14 @@ letter [] = None
 letter (byte ∷ bytes) = Some byte
 
 abbrev pub row_of : Entry → Row
-row_of entry = record { letter = letter entry.letter; name = text entry.name; kind = entry.kind; joins = entry.joins; problem = text entry.problem }
+row_of entry = record
+    { letter = letter entry.letter; name = text entry.name; kind = entry.kind; joins = entry.joins; problem = text [] }
 
 abbrev pub rows_of : List Entry → List Row
 rows_of entries = map row_of entries
 
-abbrev pub pair_of : ℕ × ℕ × List ℕ → Pair
-pair_of pair = record { first = pair.0; second = pair.1; problem = text pair.2 }
+abbrev pub pair_of : ℕ × ℕ → Pair
+pair_of pair = record { first = pair.0; second = pair.1; problem = text [] }
 
-abbrev pub pairs_of : List (ℕ × ℕ × List ℕ) → List Pair
+abbrev pub pairs_of : List (ℕ × ℕ) → List Pair
 pairs_of pairs = map pair_of pairs

@@ -1,22 +1,14 @@
--- What is wrong with a command line that needs a FILE and no option.
-use Rattle.std.specs.Prelude.{ℕ, false, List, Option, None, if◌then◌else◌, codes}
-use Rattle.std.specs.Option.{option_or}
-use Rattle.options.specs.Faults.{together, first_fault, pair_fault, has_file, is_read_once}
-use Rattle.options.specs.declared.faults.Fault.{Fault}
+-- Which command lines are right that need a FILE and no option.
+use Rattle.std.specs.Prelude.{◌&&◌, Bool, false, List}
+use Rattle.std.specs.List.{list_all}
+use Rattle.std.specs.Option.{is_none}
+use Rattle.options.specs.Faults.{is_right_item, pair_fault, has_file, is_read_once}
 use Rattle.options.specs.declared.items.Item.{Item}
-use Rattle.options.specs.declared.table.Pair.{Pair}
-use Rattle.options.specs.declared.table.Row.{Row}
 use Rattle.options.specs.declared.table.Table.{Table}
 
--- the first fault of a command line that needs a FILE, in this order: that of an option, of a pair of options, that
--- there is no FILE, and that standard input is read twice
-abbrev pub operands_fault_by : List Row → List Pair → List ℕ → List Item → Option Fault
-operands_fault_by rows pairs lacking items =
-    option_or (first_fault rows false items)
-    (option_or (pair_fault items pairs)
-    (if has_file items then if is_read_once rows items then None
-    else together (codes "-: standard input can be read only once") else together lacking))
-
--- the first fault of a command line that needs a FILE, by the table of the program's options
-abbrev pub operands_fault : Table → List Item → Option Fault
-operands_fault table items = operands_fault_by table.rows.now table.pairs.now table.lacking.now items
+-- a command line that needs a FILE, which may be empty, is right by the table of the program's options: each option is,
+-- no two options of a pair are given together, there is a FILE, and standard input is read at most once
+abbrev pub are_right_operands : Table → List Item → Bool
+are_right_operands table items =
+    list_all (is_right_item table.rows.now false) items && is_none (pair_fault items table.pairs.now)
+    && has_file items && is_read_once table.rows.now items

@@ -50,35 +50,33 @@ joined name rows = position (λ row. row.joins && has_name name row) rows
 
 -- ---- a table, as it is said in definitions
 
--- an option as definitions state it: its letter, its long name (either may be missing), the kind of its value, whether
--- the value may follow the long name after `=`, and the problem that is reported about a wrong value
+-- an option as definitions state it: its letter, its long name (either may be missing), the kind of its value, and
+-- whether the value may follow the long name after `=`
 pub record Entry : Type 0 where
   pub letter : List ℕ
   pub name : List ℕ
   pub kind : Kind
   pub joins : Bool
-  pub problem : List ℕ
 
 -- an option without a value, by its letter
 abbrev pub flag : List ℕ → Entry
-flag letter = record { letter = letter; name = []; kind = kinds.Flag; joins = false; problem = [] }
+flag letter = record { letter = letter; name = []; kind = kinds.Flag; joins = false }
 
 -- an option without a value, by its long name
 abbrev pub long_flag : List ℕ → Entry
-long_flag name = record { letter = []; name = name; kind = kinds.Flag; joins = false; problem = [] }
+long_flag name = record { letter = []; name = name; kind = kinds.Flag; joins = false }
 
--- an option that must be the only argument, by its long name, and the problem if it is not
-abbrev pub alone : List ℕ → List ℕ → Entry
-alone name problem = record { letter = []; name = name; kind = kinds.Alone; joins = false; problem = problem }
+-- an option that must be the only argument, by its long name
+abbrev pub alone : List ℕ → Entry
+alone name = record { letter = []; name = name; kind = kinds.Alone; joins = false }
 
--- an option with a value of this kind, by its letter, and the problem of a wrong value
-abbrev pub valued : List ℕ → Kind → List ℕ → Entry
-valued letter kind problem = record { letter = letter; name = []; kind = kind; joins = false; problem = problem }
+-- an option with a value of this kind, by its letter
+abbrev pub valued : List ℕ → Kind → Entry
+valued letter kind = record { letter = letter; name = []; kind = kind; joins = false }
 
--- an option with a value of this kind, by its long name, whether the value may follow the name after `=`, and the
--- problem of a wrong value
-abbrev pub long : List ℕ → Kind → Bool → List ℕ → Entry
-long name kind joins problem = record { letter = []; name = name; kind = kind; joins = joins; problem = problem }
+-- an option with a value of this kind, by its long name, and whether the value may follow the name after `=`
+abbrev pub long : List ℕ → Kind → Bool → Entry
+long name kind joins = record { letter = []; name = name; kind = kind; joins = joins }
 
 -- a letter as a text, which is empty if there is no letter
 abbrev pub letter_text : Option ℕ → List ℕ
@@ -92,18 +90,15 @@ entry_of row = record {
   name = row.name.now;
   kind = row.kind;
   joins = row.joins;
-  problem = row.problem.now;
 }
 
--- a pair of the table, as definitions state it: the indices of the two rows, and the problem
-abbrev pub told_pair : Pair → ℕ × ℕ × List ℕ
-told_pair pair = (pair.first, pair.second, pair.problem.now)
+-- a pair of the table, as definitions state it: the indices of the two rows
+abbrev pub rows_of_pair : Pair → ℕ × ℕ
+rows_of_pair pair = (pair.first, pair.second)
 
--- the table has exactly these options, these pairs of options that do not go together, these options of which one is
--- needed, and this message for when what is needed is missing
-pub record IsTable (table : Table) (entries : List Entry) (pairs : List (ℕ × ℕ × List ℕ))
-    (needs lacking : List ℕ) : Type 0 where
+-- the table has exactly these options, these pairs of options that do not go together, and these options of which one
+-- is needed
+pub record IsTable (table : Table) (entries : List Entry) (pairs : List (ℕ × ℕ)) (needs : List ℕ) : Type 0 where
   pub has_options : map entry_of table.rows.now ≡ entries
-  pub has_pairs : map told_pair table.pairs.now ≡ pairs
+  pub has_pairs : map rows_of_pair table.pairs.now ≡ pairs
   pub has_needs : table.needs.now ≡ needs
-  pub tells_lack : table.lacking.now ≡ lacking

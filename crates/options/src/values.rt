@@ -1,9 +1,9 @@
 //! Reads the values of options.
 ghost use Rattle.std.specs.Prelude.{◌≡◌};
-ghost use Rattle.options.specs.Values.{is_right, is_field, is_separator, number_in, field_in, byte_in, length_in, lengths_in};
+ghost use Rattle.options.specs.Values.{is_right, is_separator, number_in, byte_in, length_in, lengths_in};
 
-use crate::numbers::{is_number, number_of};
 use crate::table::Kind;
+use line_addresses::{Place, is_number, number_of, ordinal_in};
 
 /// Whether the text is a value of this kind.
 pub(crate) fn is_right(kind: Kind, value: &str) -> bool
@@ -14,23 +14,14 @@ pub(crate) fn is_right(kind: Kind, value: &str) -> bool
         Kind::Alone => false,
         Kind::File | Kind::Text => !value.is_empty(),
         Kind::Number => is_number(value.as_bytes()),
-        Kind::Field => is_field(value.as_bytes()),
-        Kind::Nth => { value == "first" || value == "last" || is_field(value.as_bytes()) }
+        Kind::Field => Place::read(value.as_bytes()).is_some(),
+        Kind::Nth => {
+            value == "first" || value == "last" || ordinal_in(value.as_bytes()).is_some()
+        }
         Kind::Separator => is_separator(value.as_bytes()),
         Kind::Rule => { value == "drop" || value == "keep" || value == "stop" || value == "report" }
         Kind::Lengths => lengths_in(value).is_some(),
     }
-}
-
-// Whether the text is a number from 1 to 4,294,967,295.
-fn is_field(text: &[u8]) -> bool
-    ensures { result ≡ is_field text.now }
-{
-    if !is_number(text) {
-        return false;
-    }
-    let number = number_of(text);
-    number > 0 && number <= 4_294_967_295
 }
 
 // Whether the text is one byte of ASCII other than LF, CR and NUL.
@@ -56,24 +47,6 @@ pub fn number_in(value: &str) -> Option<u64>
         return None;
     }
     Some(number_of(value.as_bytes()))
-}
-
-/// Returns the number of a field that a value is, or `None` if it is not a number from 1 to
-/// 4,294,967,295.
-///
-/// ```
-/// assert_eq!(rt; options::values::field_in("0"), None);
-/// ```
-pub fn field_in(value: &str) -> Option<u32>
-    ensures { result ≡ field_in value.now }
-{
-    if !is_field(value.as_bytes()) {
-        return None;
-    }
-    match u32::try_from(number_of(value.as_bytes())) {
-        Ok(number) => Some(number),
-        Err(_) => None,
-    }
 }
 
 /// Returns the byte of a value of exactly one byte, or `None` for any other value.

@@ -1,47 +1,11 @@
 -- Values at which a misreading of the definitions would show. Each of these computes.
-use Rattle.std.proofs.Common.{◌≡◌, ◌-◌, ◌^◌, ◌<◌, ℕ, List, ◌∷◌, ◌++◌, [], true, false, inl, inr, refl, ap, arith}
-use Rattle.std.specs.Prelude.{codes, map, String, None, Some, Ok, Err, if◌then◌else◌, bytes_eq}
-use Rattle.std.specs.Fmt.{digits}
-use Rattle.std.specs.String.{string_bytes}
-use Rattle.std.specs.Str.Lines.{lines}
+use Rattle.program.proofs.Words.{◌≡◌, ◌-◌, ◌^◌, ◌<◌, ℕ, List, ◌∷◌, ◌++◌, [], true, false, inl, inr, refl, ap, arith, map, String, None, Some, Ok, Err, if◌then◌else◌, bytes_eq, string_bytes, lines, ReadLists, at_list, TakesLines, Refused, KnownLists, end_of, ReadsList, StopsAt, StopsAtText, text_asked, shown, fault_of, is, is_only, begins_with, without_first, Open, Read, OutOfMemory, OpenFault}
+use Rattle.std.specs.Prelude.{codes}
 use Rattle.std.specs.declared.io.ErrorKind.TheVariants as kinds
-use Rattle.lists.specs.Lists.{ReadLists, at_list, TakesLines}
-use Rattle.lists.specs.Refusals.{Refused}
 use Rattle.lines.specs.declared.fault.RunFault.TheVariants as faults
-use Rattle.lists.specs.KnownLists.{KnownLists}
-use Rattle.lists.specs.Private.Readings.{end_of}
-use Rattle.lists.specs.Reading.{ReadsList, StopsAt, StopsAtText}
-use Rattle.program.specs.Endings.{unwritten_text}
-use Rattle.program.specs.LogFaults.{line_text, log_fault_text}
-use Rattle.program.specs.Runs.{text_asked}
-use Rattle.program.specs.Reported.{fault_text, more_text}
-use Rattle.program.specs.Usage.{shown, fault_of, arguments_text}
-use Rattle.program.specs.Words.{is, is_only, begins_with, without_first}
 use Rattle.program.specs.declared.arguments.ArgumentsFault.TheVariants as arguments
 use Rattle.program.specs.declared.log_fault.LogFault.TheVariants as logs
-use Rattle.lists.specs.declared.named.ReadFault.TheVariants.{Open, Read, OutOfMemory}
-use Rattle.lists.specs.declared.opening.OpenFault.{OpenFault}
 use Rattle.lists.specs.declared.opening.OpenFault.TheVariants as causes
-
--- ---- what is told
-
-pub no_more : more_text (codes "p") 0 ≡ []
-no_more = refl
-
-pub some_more : more_text (codes "p") 12 ≡ codes "p: 12 more refused lines\n"
-unfolding digits
-some_more = refl
-
-pub a_refused_list : {Z : Type 0} (union list : String Z) → string_bytes list ≡ codes "-" → fault_text (codes "p") (union ∷ list ∷ []) (Read 1) ≡ codes "p: -: cannot read\n"
-a_refused_list union list e = rw e
-
-pub a_missing_list : {Z : Type 0} (union list : String Z) → string_bytes list ≡ codes "x" → fault_text (codes "p") (union ∷ list ∷ []) (Open 1 causes.Missing) ≡ codes "p: x: cannot open: no such file\n"
-a_missing_list union list e = rw e
-
-pub why_writes_fail : map (unwritten_text (codes "p")) (kinds.StorageFull ∷ kinds.FileTooLarge ∷ kinds.BrokenPipe ∷ [])
-    ≡ codes "p: standard output: no space left on device\n" ∷ codes "p: standard output: file too large\n"
-    ∷ codes "p: standard output: cannot write\n" ∷ []
-why_writes_fail = refl
 
 -- ---- where the reading stops
 
@@ -56,20 +20,25 @@ pub no_memory : end_of (Err faults.Read) 1 true ≡ Err OutOfMemory
 no_memory = refl
 
 -- a list that is read was opened, and one that cannot be opened was not
-pub what_is_read_was_opened : (known : KnownLists) (number : ℕ) (name : List ℕ) (before after : ReadLists) → ReadsList known number name before after → known.may_open name true
+pub what_is_read_was_opened : (known : KnownLists) (number : ℕ) (name : List ℕ) (before after : ReadLists)
+    → ReadsList known number name before after → known.may_open name true
 what_is_read_was_opened known number name before after h = h.0
 
-pub what_is_not_opened : (known : KnownLists) (number place : ℕ) (name : List ℕ) (cause : OpenFault) (before : ReadLists) (refused : Refused) → StopsAt known number name before (Open place cause) refused
+pub what_is_not_opened : (known : KnownLists) (number place : ℕ) (name : List ℕ) (cause : OpenFault)
+    (before : ReadLists) (refused : Refused) → StopsAt known number name before (Open place cause) refused
     → (place ≡ number) × known.may_open name false × known.may_miss name cause × (refused ≡ before.refused)
 what_is_not_opened known number place name cause before refused h = h
 
 -- a read that fails before any line was read leaves the refused lines of the lists before
-pub a_read_that_fails_at_once : (known : KnownLists) (name : List ℕ) (before : ReadLists) → known.may_open name true → known.may_fail name → before.is_out_of_memory ≡ false
+pub a_read_that_fails_at_once : (known : KnownLists) (name : List ℕ) (before : ReadLists) → known.may_open name true
+    → known.may_fail name → before.is_out_of_memory ≡ false
     → StopsAt known 1 name before (Read 1) before.refused
-a_read_that_fails_at_once known name before opened fails memory = (refl, inl fails, at_list before 1, (opened, λ input e. ([], lines input, refl, refl)), memory, refl)
+a_read_that_fails_at_once known name before opened fails memory =
+    (refl, inl fails, at_list before 1, (opened, λ input e. ([], lines input, refl, refl)), memory, refl)
 
 -- a list that is known to have a line, and of which no read fails, is not told as one that cannot be read
-pub what_fails : (known : KnownLists) (name : List ℕ) (before : ReadLists) (refused : Refused) → known.bytes_of name ≡ Some (codes "::1\n") → (known.may_fail name → ⊥)
+pub what_fails : (known : KnownLists) (name : List ℕ) (before : ReadLists) (refused : Refused)
+    → known.bytes_of name ≡ Some (codes "::1\n") → (known.may_fail name → ⊥)
     → StopsAt known 1 name before (Read 1) refused → ⊥
 what_fails known name before refused has sound h = elim h.1 [
   | inl fails ↦ sound fails
@@ -79,13 +48,16 @@ what_fails known name before refused has sound h = elim h.1 [
   too_few l = omega (arith, l)
 
 -- memory alone stops the reading of a text, and then all its lines were taken before
-pub a_text_is_read : (number place : ℕ) (text : List ℕ) (before : ReadLists) (refused : Refused) → StopsAtText number text before (Read place) refused → ⊥
+pub a_text_is_read : (number place : ℕ) (text : List ℕ) (before : ReadLists) (refused : Refused)
+    → StopsAtText number text before (Read place) refused → ⊥
 a_text_is_read number place text before refused h = h
 
-pub a_text_is_opened : (number place : ℕ) (cause : OpenFault) (text : List ℕ) (before : ReadLists) (refused : Refused) → StopsAtText number text before (Open place cause) refused → ⊥
+pub a_text_is_opened : (number place : ℕ) (cause : OpenFault) (text : List ℕ) (before : ReadLists) (refused : Refused)
+    → StopsAtText number text before (Open place cause) refused → ⊥
 a_text_is_opened number place cause text before refused h = h
 
-pub memory_for_a_text : (number : ℕ) (text : List ℕ) (before : ReadLists) (refused : Refused) (stops : StopsAtText number text before OutOfMemory refused)
+pub memory_for_a_text : (number : ℕ) (text : List ℕ) (before : ReadLists) (refused : Refused)
+    (stops : StopsAtText number text before OutOfMemory refused)
     → TakesLines (at_list before number) (lines text) stops.0 × (stops.0.is_out_of_memory ≡ true)
 memory_for_a_text number text before refused stops = (stops.1, stops.2)
 
@@ -95,32 +67,10 @@ pub words_as_they_are_shown : map shown ([] ∷ codes "-x" ∷ (27 ∷ codes "[2
     ≡ codes "''" ∷ codes "-x" ∷ codes "\\x1b[2J\\xc2\\x9b" ∷ []
 words_as_they_are_shown = refl
 
-pub an_argument_that_is_no_text : arguments_text arguments.NotText (codes "p") (codes "usage: p\n") ≡ codes "p: an argument is not UTF-8\nusage: p\n"
-an_argument_that_is_no_text = refl
-
-pub arguments_without_memory : arguments_text arguments.OutOfMemory (codes "p") (codes "usage: p\n") ≡ codes "p: out of memory\n"
-arguments_without_memory = refl
-
 -- memory that ran out is no argument that is not UTF-8, nor is that one the other
-pub why_arguments_cannot_be_read : map fault_of (kinds.OutOfMemory ∷ kinds.InvalidData ∷ []) ≡ arguments.OutOfMemory ∷ arguments.NotText ∷ []
+pub why_arguments_cannot_be_read : map fault_of (kinds.OutOfMemory ∷ kinds.InvalidData ∷ []) ≡ arguments.OutOfMemory
+    ∷ arguments.NotText ∷ []
 why_arguments_cannot_be_read = refl
-
-pub a_name_as_it_is_shown : line_text (codes "p") (97 ∷ 10 ∷ 27 ∷ []) 6 (codes "address") ≡ codes "p: a\\x0a\\x1b:7: refused address\n"
-unfolding digits
-a_name_as_it_is_shown = refl
-
-pub faults_of_a_log : map (log_fault_text (codes "p") (codes "log") 0) (logs.Read ∷ logs.Write ∷ logs.Address ∷ logs.Length ∷ logs.Endless ∷ [])
-    ≡ codes "p: log: cannot read\n" ∷ codes "p: write error\n" ∷ codes "p: log:1: refused address\n"
-    ∷ codes "p: log:1: refused length\n" ∷ codes "p: log: too long\n" ∷ []
-unfolding digits
-faults_of_a_log = refl
-
-pub no_greater_line : log_fault_text (codes "p") (codes "log") 18446744073709551615 logs.Address ≡ codes "p: log:18446744073709551615: refused address\n"
-unfolding digits
-no_greater_line = refl
-
-pub no_name_as_it_is_shown : log_fault_text (codes "p") [] 6 logs.Read ≡ codes "p: '': cannot read\n"
-no_name_as_it_is_shown = refl
 
 -- ---- what the program says of itself
 
@@ -141,15 +91,21 @@ pub the_version : {Z : Type 0} (word : String Z) (help version : List ℕ) → s
     → text_asked help version (word ∷ []) ≡ Some version
 the_version word help version e = rw e
 
-pub the_help_among_others : {Z : Type 0} (word other : String Z) (help version : List ℕ) → text_asked help version (word ∷ other ∷ []) ≡ None
+pub the_help_among_others : {Z : Type 0} (word other : String Z) (help version : List ℕ)
+    → text_asked help version (word ∷ other ∷ []) ≡ None
 the_help_among_others word other help version = refl
 
 -- a word is left out only if it comes first
-pub the_first_word_is_left_out : {Z : Type 0} (quiet list : String Z) → string_bytes quiet ≡ codes "--quiet" → without_first (codes "--quiet") (quiet ∷ list ∷ quiet ∷ []) ≡ list ∷ quiet ∷ []
-the_first_word_is_left_out quiet list e = ap (λ (text : List ℕ). if bytes_eq text (codes "--quiet") then list ∷ quiet ∷ [] else quiet ∷ list ∷ quiet ∷ []) e
+pub the_first_word_is_left_out : {Z : Type 0} (quiet list : String Z) → string_bytes quiet ≡ codes "--quiet"
+    → without_first (codes "--quiet") (quiet ∷ list ∷ quiet ∷ []) ≡ list ∷ quiet ∷ []
+the_first_word_is_left_out quiet list e =
+    ap (λ (text : List ℕ). if bytes_eq text (codes "--quiet") then list ∷ quiet ∷ [] else quiet ∷ list ∷ quiet ∷ []) e
 
-pub another_first_word_stays : {Z : Type 0} (union quiet : String Z) → string_bytes union ≡ codes "union" → without_first (codes "--quiet") (union ∷ quiet ∷ []) ≡ union ∷ quiet ∷ []
-another_first_word_stays union quiet e = ap (λ (text : List ℕ). if bytes_eq text (codes "--quiet") then quiet ∷ [] else union ∷ quiet ∷ []) e
+pub another_first_word_stays : {Z : Type 0} (union quiet : String Z) → string_bytes union ≡ codes "union"
+    → without_first (codes "--quiet") (union ∷ quiet ∷ []) ≡ union ∷ quiet ∷ []
+another_first_word_stays union quiet e =
+    ap (λ (text : List ℕ). if bytes_eq text (codes "--quiet") then quiet ∷ [] else union ∷ quiet ∷ []) e
 
-pub only_the_first_word_counts : {Z : Type 0} (union quiet : String Z) → string_bytes union ≡ codes "union" → begins_with (codes "--quiet") (union ∷ quiet ∷ []) ≡ false
+pub only_the_first_word_counts : {Z : Type 0} (union quiet : String Z) → string_bytes union ≡ codes "union"
+    → begins_with (codes "--quiet") (union ∷ quiet ∷ []) ≡ false
 only_the_first_word_counts union quiet e = rw e

@@ -1,16 +1,6 @@
 -- What a `LineBuffer` hands out is a line of the log.
-use Rattle.std.proofs.Common.{◌≡◌, ℕ, ◌-◌, ◌≤◌, ◌==◌, ◌⊎◌, inl, inr, Bool, true, false, cond, slice_index, List, [], ◌∷◌, ◌++◌, length, take, refl, sym, ap, subst, ◌∙◌, arith, append_assoc, append-nil, length-append, length-take}
-use Rattle.std.proofs.lemmas.Bool.{ne_eqb}
-use Rattle.std.proofs.lemmas.List.{nil_from_length}
-use Rattle.std.specs.Str.Lines.{lines, strip_carriage_return}
-use Rattle.lines.specs.LineBuffers.{Buffered, IsFirstLine, HandsOut}
-use Rattle.lines.specs.LineEnds.{end_bytes}
-use Rattle.lines.specs.declared.line_end.LineEnd.{LineEnd}
-use Rattle.lines.specs.declared.line_end.LineEnd.TheVariants.{LineFeed, ReturnAndLineFeed, EndOfInput}
-use Rattle.lines.proofs.BytesLemmas.{HasNo, HasNo-push}
+use Rattle.program.proofs.Words.{◌≡◌, ℕ, ◌-◌, ◌≤◌, ◌==◌, ◌⊎◌, inl, inr, Bool, true, false, cond, slice_index, List, [], ◌∷◌, ◌++◌, length, take, refl, sym, ap, subst, ◌∙◌, arith, append_assoc, append-nil, length-append, length-take, ne_eqb, nil_from_length, lines, strip_carriage_return, Buffered, IsFirstLine, HandsOut, end_bytes, LineEnd, LineFeed, ReturnAndLineFeed, EndOfInput, HasNo, HasNo-push, newline_cases, LogLine, log_lines, content, printed, feed_behind, ended, unended, log_line}
 use Rattle.lines.proofs.Lines as engine
-use Rattle.lines.proofs.Lines.{newline_cases}
-use Rattle.program.specs.LogLines.{LogLine, log_lines, content, printed, feed_behind, ended, unended, log_line}
 use Rattle.program.proofs.LogLines.{lines_line, lines_last}
 
 -- ---- the first line of a text has no line feed

@@ -1,12 +1,13 @@
-pub mod Counts
 pub mod Examples
 pub mod HandedLines
+pub mod Known
 pub mod LogLines
 pub mod LogNames
 pub mod LogReading
-pub mod LogReadings
 pub mod LogStops
 pub mod PartExamples
 pub mod Puts
-pub mod Runs
 pub mod Reported
+pub mod Runs
+pub mod WholeLines
+pub mod Words

@@ -1,23 +1,9 @@
 -- A log is read, line by line.
-use Rattle.std.proofs.Common.{◌≡◌, ℕ, zero, suc, ◌+◌, ◌-◌, ◌*◌, ◌^◌, ◌<◌, ◌≤◌, ◌==◌, ◌&&◌, ◌⊎◌, Bool, true, false, not, cond, if◌then◌else◌, List, [], ◌∷◌, ◌++◌, length, inl, inr, take, refl, sym, ap, ◌∙◌, subst, true≢false, arith, append_assoc, append-nil, length-append, length-take, length-drop}
-use Rattle.std.specs.Prelude.{Option, IsTrue, slice_index, ◌||◌}
-use Rattle.std.specs.Io.KnownBytes.{Appends, Consumes, Keeps}
-use Rattle.std.specs.List.{list_all, filter}
-use Rattle.std.proofs.KnownBytes.{Consumes-nil, Consumes-trans, Consumes-kept}
-use Rattle.std.proofs.Math.Nat.{mul_comm}
-use Rattle.std.proofs.lemmas.Bool.Decides.{eqb_tells}
-use Rattle.std.proofs.lemmas.List.Folds.{list_all-append}
-use Rattle.std.proofs.lemmas.Nat.{mul-add-lt}
-use Rattle.lines.specs.LineBuffers.{Buffered, IsDropped, IsPending, waits, HandsOut, Gives, Receives, HasNoFeed, work}
+use Rattle.program.proofs.Words.{◌≡◌, ℕ, zero, suc, ◌+◌, ◌-◌, ◌*◌, ◌^◌, ◌<◌, ◌≤◌, ◌==◌, ◌&&◌, ◌⊎◌, Bool, true, false, not, cond, List, [], ◌∷◌, ◌++◌, length, inl, inr, take, refl, sym, ap, ◌∙◌, subst, true≢false, arith, append_assoc, append-nil, length-append, length-take, length-drop, Option, IsTrue, ◌||◌, Appends, Consumes, Keeps, list_all, Consumes-nil, Consumes-trans, Consumes-kept, mul_comm, eqb_tells, list_all-append, mul-add-lt, Buffered, IsDropped, IsPending, waits, HandsOut, Gives, Receives, HasNoFeed, work, LineEnd, has_no, puts_out, puts_more, begins_after_puts, Puts, AppendsBeginning, LogLine, log_lines, ended_lines, content, feed_behind, log_line, unended, AreFirst, HandsFirst, ComesNext, GivesNext, left, OpenLog, Line, TooLong, End}
+use Rattle.std.proofs.Common.{if◌then◌else◌}
+use Rattle.std.specs.Prelude.{slice_index}
+use Rattle.std.specs.List.{filter}
 use Rattle.lines.specs.declared.line_buffer.NextLine.TheVariants as handed
-use Rattle.lines.specs.declared.line_end.LineEnd.{LineEnd}
-use Rattle.lines.proofs.HandingOut.{has_no}
-use Rattle.lines.proofs.Putting.{puts_out, puts_more, begins_after_puts}
-use Rattle.lines.specs.Outputs.{Puts, AppendsBeginning}
-use Rattle.program.specs.LogLines.{LogLine, log_lines, ended_lines, content, feed_behind, log_line, unended}
-use Rattle.program.specs.LogReaders.{AreFirst, HandsFirst, ComesNext, GivesNext, left}
-use Rattle.program.specs.LogReaders.{OpenLog}
-use Rattle.program.specs.declared.log_reader.NextLogLine.TheVariants.{Line, TooLong, End}
 use Rattle.program.proofs.HandedLines.{printed_is, IsFirstOf, handed_first}
 use Rattle.program.proofs.LogLines.{lines_last, rest_unended, some_bytes}
 
@@ -92,8 +78,10 @@ first_ended (x ∷ first) others all none = by (λ h. first_ended first others h
 
 -- ---- a log by the fields of its reader
 
-pub by_fields : {fields log : OpenLog} {remained remains : Option (List ℕ)} {first : List LogLine} → fields ≡ log → HandsFirst log remained remains first → HandsFirst fields remained remains first
-by_fields {remained = remained} {remains = remains} {first = first} e h = subst (λ (log : OpenLog). HandsFirst log remained remains first) (sym e) h
+pub by_fields : {fields log : OpenLog} {remained remains : Option (List ℕ)} {first : List LogLine} → fields ≡ log
+    → HandsFirst log remained remains first → HandsFirst fields remained remains first
+by_fields {remained = remained} {remains = remains} {first = first} e h =
+    subst (λ (log : OpenLog). HandsFirst log remained remains first) (sym e) h
 
 -- ---- before anything was read
 
@@ -187,7 +175,8 @@ module _ (was now : OpenLog) (remained remains : Option (List ℕ)) (first : Lis
     s.read,
     s.reads,
     s.at_end (sym same ∙ given.2),
-    all_lines was.buffered.ended s.read first s.pending s.lines ∙ ap (λ l. first ++ log_lines l) given.0 ∙ append-nil first,
+    all_lines was.buffered.ended s.read first s.pending s.lines ∙ ap (λ l. first ++ log_lines l) given.0
+        ∙ append-nil first,
   )
 
   -- ---- more bytes are needed
@@ -254,7 +243,8 @@ module _ (was now : OpenLog) (remained remains : Option (List ℕ)) (first : Lis
     }
 
 -- a write failed
-pub write_breaks : (was : OpenLog) (remained remains : Option (List ℕ)) (first : List LogLine) → HandsFirst was remained remains first
+pub write_breaks : (was : OpenLog) (remained remains : Option (List ℕ)) (first : List LogLine)
+    → HandsFirst was remained remains first
     → (read : List ℕ) × (others : List LogLine) × Consumes remained remains read × (log_lines read ≡ first ++ others)
 write_breaks was remained remains first s =
     (s.read, log_lines s.pending, s.reads, all_lines was.buffered.ended s.read first s.pending s.lines)
@@ -263,12 +253,14 @@ write_breaks was remained remains first s =
 
 pub puts_idle : (held mid holds : Option (List ℕ)) (waited between waits : List ℕ) → Puts held waited mid between []
     → waits ≡ [] → Appends mid holds between → Puts held waited holds waits []
-puts_idle held mid holds waited between waits p none h = puts_more held mid holds waited between waits [] [] p (puts_out mid holds between waits none h)
+puts_idle held mid holds waited between waits p none h =
+    puts_more held mid holds waited between waits [] [] p (puts_out mid holds between waits none h)
 
 pub fails_idle : (held mid holds : Option (List ℕ)) (waited between : List ℕ) → Puts held waited mid between []
     → AppendsBeginning mid holds between → AppendsBeginning held holds (waited ++ [])
 fails_idle held mid holds waited between p h =
-    begins_after_puts held mid holds waited between [] [] p (subst (AppendsBeginning mid holds) (sym (append-nil between)) h)
+    begins_after_puts held mid holds waited between [] [] p
+    (subst (AppendsBeginning mid holds) (sym (append-nil between)) h)
 
 -- ---- some bytes are pending
 
@@ -290,8 +282,13 @@ no_feeds_absent (suc count) (suc place) = no_feeds_absent count place
 some_dropped : (dropped : Bool) (limit : ℕ) → (gone : List ℕ) × IsDropped dropped limit gone
 some_dropped false limit = ([], refl)
 some_dropped true limit =
-    let gone = no_feeds (limit + 2) in
-    (gone, ((λ place low high e. omega (arith, sym e ∙ no_feeds_absent (limit + 2) place)), omega (arith, no_feeds_length (limit + 2))))
+    let gone = no_feeds (limit + 2) in (
+      gone,
+      (
+        (λ place low high e. omega (arith, sym e ∙ no_feeds_absent (limit + 2) place)),
+        omega (arith, no_feeds_length (limit + 2)),
+      ),
+    )
 
 pub some_pending : (held : Buffered) → (pending : List ℕ) × IsPending held pending
 some_pending held =
@@ -330,7 +327,8 @@ fewer room count was now going ended fits =
 
 less_by : (size room count : ℕ) (was now : Buffered) → was.ended ≡ false
     → now.ended ≡ (count == 0) → count ≤ room → length now.bytes ≡ size
-    → (room - count + (if now.ended then 0 else 1)) * (size + 2) + work now < (room + (if was.ended then 0 else 1)) * (size + 2) + work was
+    → (room - count + (if now.ended then 0 else 1)) * (size + 2) + work now < (room + (if was.ended then 0 else 1))
+    * (size + 2) + work was
 less_by size room count was now going ended fits same =
     let left = room - count + (if now.ended then 0 else 1) in
     let all = room + (if was.ended then 0 else 1) in

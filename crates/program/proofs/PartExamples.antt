@@ -1,10 +1,5 @@
 -- What the definitions promise, part by part: a definition without one of these parts would not give it.
-use Rattle.std.proofs.Common.{◌≡◌, ℕ, List, refl, subst}
-use Rattle.std.specs.Prelude.{IsTrue, IsFalse, Option, Some, MatchOption, Ok, Err, codes, if◌then◌else◌, String}
-use Rattle.lines.specs.Outputs.{Written, Prints, Writes}
-use Rattle.program.specs.Endings.{status_of, failure_text, end_text, Ending, IsSilent, HasTold, HasWritten, EndsPrinting}
-use Rattle.program.specs.Messages.{Reports}
-use Rattle.program.specs.Runs.{text_asked, EndsRun}
+use Rattle.program.proofs.Words.{◌≡◌, ℕ, List, refl, subst, IsTrue, IsFalse, Option, Some, MatchOption, Ok, Err, if◌then◌else◌, String, Written, Prints, Writes, status_of, Ending, IsSilent, HasTold, HasWritten, EndsPrinting, Reports, text_asked, EndsRun}
 
 -- ---- messages
 
@@ -12,7 +7,8 @@ pub what_is_told : {W : Type 0} (old new : Written W) (text : List ℕ) → Repo
     → Prints old new text
 what_is_told old new text h works = h.told works
 
-pub a_failed_writer_stays_failed : {W : Type 0} (old new : Written W) (text : List ℕ) → Reports old new text → IsTrue old.failed → IsTrue new.failed
+pub a_failed_writer_stays_failed : {W : Type 0} (old new : Written W) (text : List ℕ) → Reports old new text
+    → IsTrue old.failed → IsTrue new.failed
 a_failed_writer_stays_failed old new text h failed = h.failed failed
 
 -- ---- endings
@@ -23,27 +19,25 @@ the_status_that_is_asked_for T E done = refl
 pub the_status_of_a_failed_write : (T E : Type 0) (fault : E) → status_of {T = T} {E = E} (Err fault) 0 ≡ 2
 the_status_of_a_failed_write T E fault = refl
 
-pub what_is_told_of_a_failed_write : (T E : Type 0) (fault : E) → end_text {T = T} {E = E} (codes "p") (Err fault) ≡ codes "p: write error\n"
-what_is_told_of_a_failed_write T E fault = refl
-
-pub nothing_is_told_of_a_write : (T E : Type 0) (done : T) → end_text {T = T} {E = E} (codes "p") (Ok done) ≡ codes ""
-nothing_is_told_of_a_write T E done = refl
-
-pub what_is_silent : {W E : Type 0} (end : Ending W E) → IsSilent end → (end.output_after ≡ end.output) × (end.status ≡ 2)
+pub what_is_silent : {W E : Type 0} (end : Ending W E) → IsSilent end → (end.output_after ≡ end.output)
+    × (end.status ≡ 2)
 what_is_silent end h = h
 
-pub what_was_told : {W E : Type 0} (end : Ending W E) (text : List ℕ) → HasTold end text → Reports end.errors end.errors_after text
+pub what_was_told : {W E : Type 0} (end : Ending W E) (text : List ℕ) → HasTold end text
+    → Reports end.errors end.errors_after text
 what_was_told end text h = h
 
-pub what_was_written : {W E : Type 0} (end : Ending W E) (text : List ℕ) → HasWritten end text → Writes end.output end.output_after text
+pub what_was_written : {W E : Type 0} (end : Ending W E) (text : List ℕ) → HasWritten end text
+    → Writes end.output end.output_after text
 what_was_written end text h = h
 
-pub what_was_printed : {W E : Type 0} (end : Ending W E) (program text : List ℕ) → EndsPrinting program text end
-    → (end.status ≡ (if end.output_after.failed then 2 else 0)) × (end.status ≡ 0 → HasWritten end text) × HasTold end (failure_text program end.output_after.failed)
-what_was_printed end program text h = h
+pub what_was_printed : {W E : Type 0} (end : Ending W E) (text : List ℕ) → EndsPrinting text end
+    → (end.status ≡ (if end.output_after.failed then 2 else 0)) × (end.status ≡ 0 → HasWritten end text)
+what_was_printed end text h = h
 
-pub what_a_run_prints : {Z W E : Type 0} (program help version text : List ℕ) (words : List (String Z)) (Otherwise : Type 0)
-    (end : Ending W E) → text_asked help version words ≡ Some text → EndsRun program help version words Otherwise end
-    → EndsPrinting program text end
-what_a_run_prints program help version text words Otherwise end e h =
-    subst (λ (asked : Option (List ℕ)). MatchOption asked Otherwise (λ t. EndsPrinting program t end)) e h
+pub what_a_run_prints : {Z W E : Type 0} (help version text : List ℕ) (words : List (String Z))
+    (Otherwise : Type 0)
+    (end : Ending W E) → text_asked help version words ≡ Some text → EndsRun help version words Otherwise end
+    → EndsPrinting text end
+what_a_run_prints help version text words Otherwise end e h =
+    subst (λ (asked : Option (List ℕ)). MatchOption asked Otherwise (λ t. EndsPrinting t end)) e h

@@ -1,9 +1,6 @@
 -- Texts that are put, one after the other.
-use Rattle.std.proofs.Common.{◌≡◌, ◌||◌, ◌∙◌, [], ℕ, Bool, true, false, List, ◌++◌, refl, sym, ap, subst, true≢false, append_assoc}
-use Rattle.std.specs.Prelude.{Result, Ok, Err, OnErr, is_err}
-use Rattle.lines.specs.Outputs.{Written, AppendsBeginning, Prints, FailsIn}
-use Rattle.lines.proofs.Putting.{puts_nothing, puts_more, begins_within, begins_after_puts}
-use Rattle.program.specs.Putting.{PutsOrFails}
+use Rattle.program.proofs.Words.{◌≡◌, ◌∙◌, [], ℕ, Bool, true, false, List, ◌++◌, refl, sym, ap, subst, true≢false, append_assoc, Result, Ok, Err, OnErr, is_err, Written, AppendsBeginning, Prints, FailsIn, puts_nothing, puts_more, begins_within, begins_after_puts, PutsOrFails}
+use Rattle.std.proofs.Common.{◌||◌}
 
 pub on_err : {T E : Type 0} (result : Result T E) (P : Type 0) → P → OnErr result P
 on_err (Ok x) P p = tt
@@ -25,7 +22,8 @@ works_on new false old e f = e ∙ f
 
 module _ {W T E : Type 0} where
   -- the first was put, and then the second, or not
-  pub puts_two : (result : Result T E) (old mid new : Written W) (first second : List ℕ) → Prints old mid first → mid.failed ≡ (old.failed || false)
+  pub puts_two : (result : Result T E) (old mid new : Written W) (first second : List ℕ) → Prints old mid first
+      → mid.failed ≡ (old.failed || false)
       → PutsOrFails result mid new second → PutsOrFails result old new (first ++ second)
   puts_two (Ok x) old mid new first second p works q = record {
     ok = puts_more _ _ _ _ _ _ first second p q.ok;
@@ -39,7 +37,8 @@ module _ {W T E : Type 0} where
   }
 
   -- the writer failed at the first
-  pub fails_first : (result : Result T E) (old new : Written W) (first second : List ℕ) → is_err result ≡ true → new.failed ≡ (old.failed || true)
+  pub fails_first : (result : Result T E) (old new : Written W) (first second : List ℕ) → is_err result ≡ true
+      → new.failed ≡ (old.failed || true)
       → FailsIn old new first → PutsOrFails result old new (first ++ second)
   fails_first (Ok x) old new first second is fails h = absurd (true≢false (sym is))
   fails_first (Err e) old new first second is fails h = record {
@@ -50,17 +49,22 @@ module _ {W T E : Type 0} where
   }
 
   -- or at one behind some of all
-  pub fails_all : (result : Result T E) (old mid new : Written W) (all : List ℕ) → is_err result ≡ true → mid.failed ≡ old.failed → new.failed ≡ (mid.failed || true)
+  pub fails_all : (result : Result T E) (old mid new : Written W) (all : List ℕ) → is_err result ≡ true
+      → mid.failed ≡ old.failed → new.failed ≡ (mid.failed || true)
       → FailsIn old new all → PutsOrFails result old new all
   fails_all (Ok x) old mid new all is works fails h = absurd (true≢false (sym is))
-  fails_all (Err e) old mid new all is works fails h = record { ok = tt; failed = fails ∙ ap (λ b. b || true) works; beginning = h }
+  fails_all (Err e) old mid new all is works fails h =
+      record { ok = tt; failed = fails ∙ ap (λ b. b || true) works; beginning = h }
 
   -- ---- one by another name
 
-  pub puts_it : (result : Result T E) (old new : Written W) (text other : List ℕ) → text ≡ other → PutsOrFails result old new text → PutsOrFails result old new other
+  pub puts_it : (result : Result T E) (old new : Written W) (text other : List ℕ) → text ≡ other
+      → PutsOrFails result old new text → PutsOrFails result old new other
   puts_it result old new text other same h = subst (λ (t : List ℕ). PutsOrFails result old new t) same h
 
   -- nothing
-  pub puts_none : (x : T) (old : Written W) (other : List ℕ) → [] ≡ other → PutsOrFails {T = T} {E = E} (Ok x) old old other
+  pub puts_none : (x : T) (old : Written W) (other : List ℕ) → [] ≡ other
+      → PutsOrFails {T = T} {E = E} (Ok x) old old other
   puts_none x old other same = puts_it (Ok x) old old [] other same
-      (record { ok = puts_nothing old.holds old.waits; failed = works_still old.failed old.failed refl; beginning = tt })
+      (record
+      { ok = puts_nothing old.holds old.waits; failed = works_still old.failed old.failed refl; beginning = tt })

@@ -1,14 +1,5 @@
 -- What is told, one text after the other.
-use Rattle.std.proofs.Common.{◌≡◌, ◌<◌, ◌≤◌, ◌∙◌, ℕ, zero, suc, Bool, true, false, List, [], ◌∷◌, ◌++◌, refl, sym, ap, subst, arith, length, get_or, append-nil, decimal, codes}
-use Rattle.std.specs.Prelude.{IsTrue, IsFalse, String, nat_lt, if◌then◌else◌}
-use Rattle.std.specs.List.{flat_map}
-use Rattle.std.specs.String.{string_bytes}
-use Rattle.std.proofs.lemmas.Grind.{flat_map-append}
-use Rattle.std.proofs.lemmas.Bool.Decides.{nat_tests}
-use Rattle.lines.specs.Outputs.{Written}
-use Rattle.lines.proofs.Putting.{puts_more, puts_nothing}
-use Rattle.program.specs.Messages.{Reports}
-use Rattle.program.specs.Reported.{name_at, more_text}
+use Rattle.program.proofs.Words.{◌≡◌, ◌<◌, ◌≤◌, ℕ, zero, suc, Bool, true, false, List, [], ◌∷◌, ◌++◌, refl, sym, subst, arith, length, get_or, IsTrue, IsFalse, String, string_bytes, Written, puts_more, puts_nothing, Reports, name_at}
 
 works_before : (mid new : Bool) → (IsTrue mid → IsTrue new) → IsFalse new → IsFalse mid
 works_before false new kept works = refl
@@ -24,7 +15,8 @@ tells_more old mid new first second p q = record {
 }
 
 -- the same, where the facts say which
-pub tells_on : {W : Type 0} {old mid new : Written W} {first second : List ℕ} → Reports old mid first → Reports mid new second → Reports old new (first ++ second)
+pub tells_on : {W : Type 0} {old mid new : Written W} {first second : List ℕ} → Reports old mid first
+    → Reports mid new second → Reports old new (first ++ second)
 tells_on p q = tells_more _ _ _ _ _ p q
 
 pub tells_nothing : {W : Type 0} (old : Written W) → Reports old old []
@@ -34,27 +26,14 @@ tells_nothing old = record {
 }
 
 -- a text by another name
-pub tells_same : {W : Type 0} (old new : Written W) (text other : List ℕ) → text ≡ other → Reports old new text → Reports old new other
+pub tells_same : {W : Type 0} (old new : Written W) (text other : List ℕ) → text ≡ other → Reports old new text
+    → Reports old new other
 tells_same old new text other e h = subst (λ (t : List ℕ). Reports old new t) e h
-
--- a line more
-pub tells_line : {W X : Type 0} (old mid new : Written W) (line : X → List ℕ) (done all : List X) (x : X) → all ≡ done ++ x ∷ []
-    → Reports old mid (flat_map line done) → Reports mid new (line x) → Reports old new (flat_map line all)
-tells_line old mid new line done all x e p q =
-    tells_same old new (flat_map line done ++ line x) (flat_map line all)
-    (ap (λ t. flat_map line done ++ t) (sym (append-nil (line x))) ∙ sym (flat_map-append line done (x ∷ [])) ∙ ap (flat_map line) (sym e))
-    (tells_more old mid new (flat_map line done) (line x) p q)
-
--- how many more lines were refused, if any were
-pub more_told : (program : List ℕ) (more : ℕ) → 0 < more → program ++ codes ": " ++ decimal more ++ codes " more refused lines\n" ≡ more_text program more
-more_told program more l =
-    let text = program ++ codes ": " ++ decimal more ++ codes " more refused lines\n" in
-    let e : nat_lt 0 more ≡ true = grind (arith, nat_tests) in
-    subst (λ (b : Bool). text ≡ (if b then text else [])) (sym e) refl
 
 -- ---- names of lists
 
-pub name_within : {Z : Type 0} (words : List (String Z)) (place : ℕ) (word : String Z) → place < length words → name_at words place ≡ string_bytes (get_or words place word)
+pub name_within : {Z : Type 0} (words : List (String Z)) (place : ℕ) (word : String Z) → place < length words
+    → name_at words place ≡ string_bytes (get_or words place word)
 name_within [] place word l = absurd (omega arith)
 name_within (w ∷ ws) zero word l = refl
 name_within (w ∷ ws) (suc place) word l = name_within ws place word (omega arith)

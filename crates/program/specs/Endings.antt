@@ -1,31 +1,11 @@
 -- How a program ends.
-use Rattle.std.specs.Prelude.{◌≡◌, ℕ, List, [], ◌++◌, codes, Bool, if◌then◌else◌, Result, is_err}
-use Rattle.std.specs.declared.io.ErrorKind.{ErrorKind}
-use Rattle.std.specs.declared.io.ErrorKind.TheVariants as kinds
+use Rattle.std.specs.Prelude.{◌≡◌, ℕ, List, if◌then◌else◌, Result, is_err}
 use Rattle.lines.specs.Outputs.{Written, Writes}
 use Rattle.program.specs.Messages.{Reports}
 
 -- the exit status of a program: `status` if its output was written, and 2 if not
 abbrev pub status_of : {T E : Type 0} → Result T E → ℕ → ℕ
 status_of written status = if is_err written then 2 else status
-
--- what is reported, in the name of a program, if a write failed, and nothing if none did
-abbrev pub failure_text : List ℕ → Bool → List ℕ
-failure_text program failed = if failed then program ++ codes ": write error\n" else []
-
--- what is reported about the writing of the output: a write error if it failed, and else nothing
-abbrev pub end_text : {T E : Type 0} → List ℕ → Result T E → List ℕ
-end_text program written = failure_text program (is_err written)
-
--- why a write failed, by the kind of the system's error
-abbrev pub write_cause : ErrorKind → List ℕ
-write_cause kinds.StorageFull = codes ": no space left on device\n"
-write_cause kinds.FileTooLarge = codes ": file too large\n"
-write_cause kind = codes ": cannot write\n"
-
--- what is reported, in the name of a program, about a write to standard output that failed for this cause
-abbrev pub unwritten_text : List ℕ → ErrorKind → List ℕ
-unwritten_text program kind = program ++ codes ": standard output" ++ write_cause kind
 
 -- how a run ended: its output and its error output, before and after the run, and its exit status
 pub record Ending (W E : Type 0) : Type 0 where
@@ -62,9 +42,7 @@ HasWritten end text = Writes end.output end.output_after text
 abbrev pub Refuses : {W E : Type 0} → List ℕ → Ending W E → Type 0
 Refuses text end = IsSilent end × HasTold end text
 
--- the run wrote the text, reported nothing and has the exit status 0; or the writer has failed, the run reported a
--- write error, and its exit status is 2
-abbrev pub EndsPrinting : {W E : Type 0} → List ℕ → List ℕ → Ending W E → Type 0
-EndsPrinting program text end = (end.status ≡ (if end.output_after.failed then 2 else 0))
+-- the run wrote the text, and its exit status is 0; or the writer has failed, and it is 2
+abbrev pub EndsPrinting : {W E : Type 0} → List ℕ → Ending W E → Type 0
+EndsPrinting text end = (end.status ≡ (if end.output_after.failed then 2 else 0))
     × (end.status ≡ 0 → HasWritten end text)
-    × HasTold end (failure_text program end.output_after.failed)

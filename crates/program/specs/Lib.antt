@@ -1,11 +1,9 @@
 -- What the contracts of this crate cite.
-pub mod Counts
 pub mod Endings
 pub mod Escapes
 pub mod LogFaults
 pub mod LogLines
 pub mod LogReaders
-pub mod LogReadings
 pub mod Logs
 pub mod Messages
 pub mod Putting

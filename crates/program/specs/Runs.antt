@@ -11,7 +11,6 @@ text_asked help version words =
     else None
 
 -- the run printed the help or the version if the only word asks for it; otherwise `Otherwise` holds
-abbrev pub EndsRun : {Z W E : Type 0} → List ℕ → List ℕ → List ℕ → List (String Z) → Type 0 → Ending W E
-    → Type 0
-EndsRun program help version words Otherwise end =
-    MatchOption (text_asked help version words) Otherwise (λ text. EndsPrinting program text end)
+abbrev pub EndsRun : {Z W E : Type 0} → List ℕ → List ℕ → List (String Z) → Type 0 → Ending W E → Type 0
+EndsRun help version words Otherwise end =
+    MatchOption (text_asked help version words) Otherwise (λ text. EndsPrinting text end)

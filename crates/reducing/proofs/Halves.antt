@@ -1,16 +1,7 @@
--- Where two blocks lie in the block that they are joined to, and that the pair with the fewest others has no other block
+-- Where two blocks lie in the block that they are joined to, and that the pair with the fewest others has no other
+-- block
 -- in it.
-use Rattle.std.proofs.Common.{◌≡◌, ℕ, suc, ◌+◌, ◌-◌, ◌*◌, ◌/◌, ◌<◌, ◌≤◌, ◌∷◌, [], refl, sym, ap, subst, ◌∙◌, arith, ⊎_elim}
-use Rattle.std.proofs.Math.Nat.{pow-le-pow_right}
-use Rattle.std.proofs.lemmas.Bool.{cases_lt, cases_eq}
-use Rattle.std.specs.List.{Contains}
-use Rattle.ipnetwork_family.specs.Network.{Network, IsCidrBlock, Member, Subnet, block_size, block_at, low, high}
-use Rattle.ipnetwork_family.proofs.Blocks.{size_pos, div_within, within_block, within_member, has_ends, subnet_from, subnet_prefix, block_same_set, coarser_size}
-use Rattle.ipnetwork_family.proofs.BlocksAt.{block_at_network}
-use Rattle.ipnetwork_blocks.specs.Spanning.{IsSpanning}
-use Rattle.ipnetwork_blocks.proofs.HalfBlocks.{size_half}
-use Rattle.ipnetwork_blocks.proofs.LeastLists.{contains_cons, contains_nil, contains_head, contains_tail}
-use Rattle.reducing.specs.Joining.{joined, others}
+use Rattle.reducing.proofs.Words.{◌≡◌, ℕ, suc, ◌+◌, ◌-◌, ◌*◌, ◌/◌, ◌<◌, ◌≤◌, ◌∷◌, [], refl, sym, ap, subst, ◌∙◌, arith, ⊎_elim, pow-le-pow_right, cases_lt, cases_eq, Contains, Network, IsCidrBlock, Member, Subnet, block_size, block_at, low, high, size_pos, div_within, within_block, within_member, has_ends, subnet_from, subnet_prefix, block_same_set, coarser_size, block_at_network, IsSpanning, size_half, contains_cons, contains_nil, contains_head, contains_tail, joined, others}
 use Rattle.reducing.proofs.Shared.{joined_spans}
 
 -- the address behind the last one
@@ -26,13 +17,16 @@ inside w n m hn hm sub =
     (omega (arith, from.0, hn.block, hm.block), omega (arith, to.1, hn.block, hm.block, size_pos w n.prefix))
 
 -- two blocks in one block of prefix length p are joined to one that is no shorter
-joined_within : (w p : ℕ) (c d t : Network) → IsCidrBlock w c → IsCidrBlock w d → IsSpanning w (c ∷ d ∷ []) t → p ≤ w → p ≤ c.prefix → p ≤ d.prefix
+joined_within : (w p : ℕ) (c d t : Network) → IsCidrBlock w c → IsCidrBlock w d → IsSpanning w (c ∷ d ∷ []) t → p ≤ w
+    → p ≤ c.prefix → p ≤ d.prefix
     → c.address / block_size w p ≡ d.address / block_size w p → p ≤ t.prefix
 joined_within w p c d t hc hd spans fits pc pd same =
     let x : Network = block_at w c.address p in
     let hx = block_at_network w c.address p hc.network.address_fits fits in
-    let in_c : Subnet w c x = subnet_from w c x hc.network pc ((block_same_set w (record { address = c.address; prefix = p }) c.address).1 (hc.network.address_fits, refl)) in
-    let in_d : Subnet w d x = subnet_from w d x hd.network pd ((block_same_set w (record { address = c.address; prefix = p }) d.address).1 (hd.network.address_fits, sym same)) in
+    let in_c : Subnet w c x = subnet_from w c x hc.network pc
+    ((block_same_set w (record { address = c.address; prefix = p }) c.address).1 (hc.network.address_fits, refl)) in
+    let in_d : Subnet w d x = subnet_from w d x hd.network pd ((block_same_set w
+    (record { address = c.address; prefix = p }) d.address).1 (hd.network.address_fits, sym same)) in
     subnet_prefix w t x spans.block.network hx.network (spans.smallest x hx.network (λ m i.
     let Goal : Type 0 = Subnet w m x in
     ⊎_elim
@@ -53,7 +47,8 @@ pub record IsPair (w : ℕ) (a b t : Network) : Type 0 where
 pub pair_inside : (w : ℕ) (a b t : Network) → IsPair w a b t → (t.address ≤ a.address) × (end_of w b ≤ end_of w t)
 pair_inside w a b t h =
     let in_a = inside w a t h.first h.spans.block (h.spans.around a (contains_head a (b ∷ []))) in
-    let in_b = inside w b t h.second h.spans.block (h.spans.around b (contains_tail a (b ∷ []) b (contains_head b []))) in
+    let in_b = inside w b t h.second h.spans.block (h.spans.around b (contains_tail a (b ∷ []) b (contains_head b [])))
+    in
     (in_a.0, in_b.1)
 
 -- each of the two lies in a half of their block
@@ -63,9 +58,11 @@ pub record AreInHalves (w : ℕ) (a b t : Network) : Type 0 where
   pub second_is_longer : suc t.prefix ≤ b.prefix
   pub size : block_size w t.prefix ≡ block_size w (suc t.prefix) + block_size w (suc t.prefix)
   pub first_half : a.address / block_size w (suc t.prefix) * block_size w (suc t.prefix) ≡ t.address
-  pub second_half : b.address / block_size w (suc t.prefix) * block_size w (suc t.prefix) ≡ t.address + block_size w (suc t.prefix)
+  pub second_half : b.address / block_size w (suc t.prefix) * block_size w (suc t.prefix) ≡ t.address + block_size w
+      (suc t.prefix)
 
-longer : (w : ℕ) (n t : Network) → IsCidrBlock w n → IsCidrBlock w t → Subnet w n t → block_size w n.prefix < block_size w t.prefix
+longer : (w : ℕ) (n t : Network) → IsCidrBlock w n → IsCidrBlock w t → Subnet w n t
+    → block_size w n.prefix < block_size w t.prefix
     → suc t.prefix ≤ n.prefix
 longer w n t hn ht sub less =
     let no_less = subnet_prefix w n t hn.network ht.network sub in
@@ -92,7 +89,8 @@ in_halves w a b t h =
     let some : 0 < half = size_pos w (suc t.prefix) in
     let u : ℕ = t.address / block_size w t.prefix in
     let next : t.prefix + 1 ≡ suc t.prefix = omega arith in
-    let size : block_size w t.prefix ≡ half + half = subst (λ (p : ℕ). block_size w t.prefix ≡ block_size w p + block_size w p) next (size_half w t.prefix (omega (arith, fits))) in
+    let size : block_size w t.prefix ≡ half + half = subst (λ (p : ℕ). block_size w t.prefix ≡ block_size w
+    p + block_size w p) next (size_half w t.prefix (omega (arith, fits))) in
     let begins : t.address ≡ (u + u) * half = h.spans.block.block ∙ ap (λ z. u * z) size ∙ omega arith in
     let upper : (u + u + 1) * half ≡ t.address + half = omega (arith, begins) in
     let lower_of = λ (x : ℕ) (from : t.address ≤ x) (to : x < t.address + half).
@@ -104,7 +102,8 @@ in_halves w a b t h =
     let Goal : Type 0 = AreInHalves w a b t in
     ⊎_elim
     (λ (low_b : b.address < t.address + half).
-    let r : Goal = absurd (apart (lower_of a.address in_a.0 (omega (arith, low_b)) ∙ sym (lower_of b.address (omega (arith, in_a.0)) low_b))) in r)
+    let r : Goal = absurd (apart (lower_of a.address in_a.0 (omega (arith, low_b))
+    ∙ sym (lower_of b.address (omega (arith, in_a.0)) low_b))) in r)
     (λ (high_b : t.address + half ≤ b.address).
     let at_b : b.address / half ≡ u + u + 1 = upper_of b.address high_b (omega (arith, in_b.1, size)) in
     let r : Goal = ⊎_elim
@@ -133,15 +132,22 @@ pub others_add_up : (w : ℕ) (a b : Network) → IsPair w a b (joined w a b)
 unfolding others
 others_add_up w a b h = omega (arith, h.order, pair_inside w a b (joined w a b) h)
 
-pub is_pair : (w : ℕ) (a b : Network) → IsCidrBlock w a → IsCidrBlock w b → end_of w a ≤ b.address → IsPair w a b (joined w a b)
-is_pair w a b ha hb order = record { first = ha; second = hb; order = order; spans = joined_spans w a b ha.network hb.network }
+pub is_pair : (w : ℕ) (a b : Network) → IsCidrBlock w a → IsCidrBlock w b → end_of w a ≤ b.address
+    → IsPair w a b (joined w a b)
+is_pair w a b ha hb order =
+    record { first = ha; second = hb; order = order; spans = joined_spans w a b ha.network hb.network }
 
 -- two blocks in one block of prefix length p have at most the rest of it as others
 crowded : (w p : ℕ) (c d : Network) → IsPair w c d (joined w c d) → p ≤ w → p ≤ c.prefix → p ≤ d.prefix
     → c.address / block_size w p ≡ d.address / block_size w p
     → others w c d + block_size w c.prefix + block_size w d.prefix ≤ block_size w p
 crowded w p c d h fits pc pd same =
-    omega (arith, others_add_up w c d h, size_falls w p (joined w c d).prefix (joined_within w p c d (joined w c d) h.first h.second h.spans fits pc pd same))
+    omega (
+      arith,
+      others_add_up w c d h,
+      size_falls w p (joined w c d).prefix
+          (joined_within w p c d (joined w c d) h.first h.second h.spans fits pc pd same),
+    )
 
 own_half : (s x : ℕ) → 0 < s → (x / s * s ≤ x) × (x < x / s * s + s)
 own_half s x some = within_block s x x some refl
@@ -166,12 +172,14 @@ none_behind w a b q h hq order least =
     (λ (wide : q.prefix < suc t.prefix).
     let agree = coarser_size w q.prefix (suc t.prefix) q.address b.address (omega (arith, wide)) k.fits same in
     let m : Member w q b.address = (h.second.network.address_fits, sym agree) in
-    let r : suc t.prefix ≤ q.prefix = absurd (omega (arith, within_member w q b.address m, hq.block, order, some_b)) in r)
+    let r : suc t.prefix ≤ q.prefix = absurd (omega (arith, within_member w q b.address m, hq.block, order, some_b)) in
+    r)
     (λ (ok : suc t.prefix ≤ q.prefix). ok)
     (cases_lt q.prefix (suc t.prefix)) in
     let few = crowded w (suc t.prefix) b q (is_pair w b q h.second hq order) k.fits k.second_is_longer pq (sym same) in
     let all = others_add_up w a b h in
-    let r : Goal = absurd (omega (arith, few, all, k.size, least, some_q, size_falls w (suc t.prefix) a.prefix k.first_is_longer)) in r)
+    let r : Goal = absurd (omega
+    (arith, few, all, k.size, least, some_q, size_falls w (suc t.prefix) a.prefix k.first_is_longer)) in r)
     (λ (ok : end_of w t ≤ q.address). ok)
     (cases_lt q.address (end_of w t))
 
@@ -205,6 +213,7 @@ none_before w p a b h hp order least =
     sym (coarser_size w (suc t.prefix) p.prefix top p.address pp hp.network.prefix_fits top_of) ∙ same in
     let few = crowded w (suc t.prefix) p a (is_pair w p a hp h.first order) k.fits pp k.first_is_longer in_half in
     let all = others_add_up w a b h in
-    let r : Goal = absurd (omega (arith, few, all, k.size, least, some_p, size_falls w (suc t.prefix) b.prefix k.second_is_longer)) in r)
+    let r : Goal = absurd (omega
+    (arith, few, all, k.size, least, some_p, size_falls w (suc t.prefix) b.prefix k.second_is_longer)) in r)
     (λ (ok : end_of w p ≤ t.address). ok)
     (cases_lt t.address (end_of w p))

@@ -1,9 +1,10 @@
-pub mod Shared
-pub mod Parts
-pub mod Trees
-pub mod JoinedParts
-pub mod Halves
-pub mod Rows
-pub mod Kept
 mod Examples
-mod LawExamples
+pub mod Halves
+pub mod JoinedParts
+pub mod Kept
+pub mod Known
+pub mod ListParts
+pub mod Rows
+pub mod Shared
+pub mod Trees
+pub mod Words

@@ -1,14 +1,5 @@
 -- Lists of blocks in ascending order that share no address, and how many addresses they have.
-use Rattle.std.proofs.Common.{◌≡◌, ℕ, zero, suc, ◌+◌, ◌^◌, ◌<◌, ◌≤◌, ◌++◌, ◌∷◌, [], List, length, refl, sym, ap, subst, ◌∙◌, append_assoc, arith}
-use Rattle.std.proofs.Math.Nat.{pow-le-pow_right}
-use Rattle.std.specs.List.{All, AllPairs, Contains}
-use Rattle.ipnetwork_blocks.proofs.LeastLists.{contains_head, contains_tail}
-use Rattle.ipnetwork_family.specs.Network.{Network, IsCidrBlock, high}
-use Rattle.ipnetwork_family.proofs.Blocks.{size_pos, high_fits}
-use Rattle.ipnetwork_sets.specs.Counts.{total}
-use Rattle.reducing.specs.Joining.{joined, others}
-use Rattle.reducing.specs.Reducing.{AllNeighbours, Joins, Becomes}
-use Rattle.reducing.specs.Reducing.Becomes.{Same, InFirst, InSecond}
+use Rattle.reducing.proofs.Words.{◌≡◌, ℕ, suc, ◌+◌, ◌^◌, ◌<◌, ◌≤◌, ◌++◌, ◌∷◌, [], List, length, refl, sym, ap, subst, ◌∙◌, append_assoc, arith, pow-le-pow_right, AllPairs, Contains, contains_head, contains_tail, Network, IsCidrBlock, high, size_pos, high_fits, total, joined, others, AllNeighbours, Joins, Becomes, Same, InFirst, InSecond}
 use Rattle.reducing.proofs.Halves.{end_of, IsPair, is_pair, none_before, none_behind, others_add_up}
 
 abbrev pub IsRow : ℕ → List Network → Type 0
@@ -20,28 +11,10 @@ row_head : (w : ℕ) (a : Network) (xs : List Network) → IsRow w (a ∷ xs) �
 row_head w a [] h = h
 row_head w a (b ∷ xs) h = h.0
 
-row_tail : (w : ℕ) (a : Network) (xs : List Network) → IsRow w (a ∷ xs) → IsRow w xs
-row_tail w a [] h = tt
-row_tail w a (b ∷ xs) h = h.2
-
--- a row has blocks, each before all behind it
-pub row_blocks : (w : ℕ) (xs : List Network) → IsRow w xs → All (IsCidrBlock w) xs
-row_blocks w [] h i d within = absurd (omega arith)
-row_blocks w (a ∷ xs) h zero d within = row_head w a xs h
-row_blocks w (a ∷ xs) h (suc i) d within = row_blocks w xs (row_tail w a xs h) i d (omega arith)
-
-pub row_apart : (w : ℕ) (xs : List Network) → IsRow w xs → AllPairs (λ a b. high w a < b.address) xs
-row_apart w [] h i j d less within = absurd (omega arith)
-row_apart w (a ∷ xs) h i zero d less within = absurd (omega arith)
-row_apart w (a ∷ xs) h (suc i) (suc j) d less within = row_apart w xs (row_tail w a xs h) i j d (omega arith) (omega arith)
-row_apart w (a ∷ []) h zero (suc j) d less within = absurd (omega arith)
-row_apart w (a ∷ b ∷ xs) h zero (suc zero) d less within = omega (arith, h.1, h.0.block, size_pos w a.prefix)
-row_apart w (a ∷ b ∷ xs) h zero (suc (suc j)) d less within =
-    omega (arith, row_apart w (b ∷ xs) h.2 zero (suc j) d (omega arith) (omega arith), h.1, h.0.block, (row_head w b xs h.2).block, size_pos w a.prefix, size_pos w b.prefix)
-
 -- ---- a row in two parts
 
-row_front : (w : ℕ) (xs : List Network) (a : Network) (ys : List Network) → IsRow w (xs ++ a ∷ ys) → IsRow w (xs ++ a ∷ [])
+row_front : (w : ℕ) (xs : List Network) (a : Network) (ys : List Network) → IsRow w (xs ++ a ∷ ys)
+    → IsRow w (xs ++ a ∷ [])
 row_front w [] a ys h = row_head w a ys h
 row_front w (x ∷ []) a ys h = (h.0, h.1, row_head w a ys h.2)
 row_front w (x ∷ y ∷ xs) a ys h = (h.0, h.1, row_front w (y ∷ xs) a ys h.2)
@@ -59,14 +32,16 @@ row_with_last w (x ∷ []) a t h ht near = (h.0, near [] x refl, ht)
 row_with_last w (x ∷ y ∷ xs) a t h ht near =
     (h.0, h.1, row_with_last w (y ∷ xs) a t h.2 ht (λ before p e. near (x ∷ before) p (ap (λ u. x ∷ u) e)))
 
-row_with_back : (w : ℕ) (xs : List Network) (t : Network) (ys : List Network) → IsRow w (xs ++ t ∷ []) → IsRow w (t ∷ ys)
+row_with_back : (w : ℕ) (xs : List Network) (t : Network) (ys : List Network) → IsRow w (xs ++ t ∷ [])
+    → IsRow w (t ∷ ys)
     → IsRow w (xs ++ t ∷ ys)
 row_with_back w [] t ys h k = k
 row_with_back w (x ∷ []) t ys h k = (h.0, h.1, k)
 row_with_back w (x ∷ y ∷ xs) t ys h k = (h.0, h.1, row_with_back w (y ∷ xs) t ys h.2 k)
 
 row_behind : (w : ℕ) (b t : Network) (ys : List Network) → IsRow w (b ∷ ys) → IsCidrBlock w t
-    → ((q : Network) (rest : List Network) → ys ≡ q ∷ rest → IsCidrBlock w q → end_of w b ≤ q.address → end_of w t ≤ q.address)
+    → ((q : Network) (rest : List Network) → ys ≡ q ∷ rest → IsCidrBlock w q → end_of w b ≤ q.address
+    → end_of w t ≤ q.address)
     → IsRow w (t ∷ ys)
 row_behind w b t [] h ht near = ht
 row_behind w b t (q ∷ ys) h ht near = (ht, near q ys refl (row_head w q ys h.2) h.1, h.2)
@@ -79,7 +54,8 @@ neighbours_at P [] a b ys h = h.0
 neighbours_at P (x ∷ []) a b ys h = neighbours_at P [] a b ys h.1
 neighbours_at P (x ∷ y ∷ xs) a b ys h = neighbours_at P (y ∷ xs) a b ys h.1
 
-pub pair_in_row : (w : ℕ) (list next : List Network) (k : ℕ) (j : Joins w list next k) → IsRow w list → IsPair w j.a j.b (joined w j.a j.b)
+pub pair_in_row : (w : ℕ) (list next : List Network) (k : ℕ) (j : Joins w list next k) → IsRow w list
+    → IsPair w j.a j.b (joined w j.a j.b)
 pair_in_row w list next k j row =
     let back = row_back w j.before j.a (j.b ∷ j.behind) (subst (IsRow w) j.list_is row) in
     is_pair w j.a j.b back.0 (row_head w j.b j.behind back.2) back.1
@@ -97,7 +73,8 @@ joined_row w list next k j row =
     subst (IsRow w) (sym j.next_is)
     (row_with_back w j.before t j.behind
     (row_with_last w j.before j.a t front ht (λ before p e.
-    let split : j.before ++ j.a ∷ [] ≡ before ++ p ∷ j.a ∷ [] = ap (λ u. u ++ j.a ∷ []) e ∙ append_assoc before (p ∷ []) (j.a ∷ []) in
+    let split : j.before ++ j.a ∷ [] ≡ before ++ p ∷ j.a ∷ [] = ap (λ u. u ++ j.a ∷ []) e
+    ∙ append_assoc before (p ∷ []) (j.a ∷ []) in
     let last = row_back w before p (j.a ∷ []) (subst (IsRow w) split front) in
     let more = neighbours_at More before p j.a [] (subst (AllNeighbours More) split j.first) in
     none_before w p j.a j.b pair last.0 last.1 (omega (arith, more, j.others_are))))
@@ -113,7 +90,8 @@ total_append : (w : ℕ) (xs ys : List Network) → total w (xs ++ ys) ≡ total
 total_append w [] ys = omega arith
 total_append w (x ∷ xs) ys = omega (arith, total_append w xs ys)
 
-joined_total : (w : ℕ) (list next : List Network) (k : ℕ) → Joins w list next k → IsRow w list → total w next ≡ total w list + k
+joined_total : (w : ℕ) (list next : List Network) (k : ℕ) → Joins w list next k → IsRow w list
+    → total w next ≡ total w list + k
 joined_total w list next k j row =
     let pair = pair_in_row w list next k j row in
     let old = ap (total w) j.list_is ∙ total_append w j.before (j.a ∷ j.b ∷ j.behind) in
@@ -132,13 +110,20 @@ pub some_addresses : (w : ℕ) (xs : List Network) → length xs ≤ total w xs
 some_addresses w [] = omega arith
 some_addresses w (a ∷ xs) = omega (arith, some_addresses w xs, size_pos w a.prefix)
 
-length_around : (xs : List Network) (a : Network) (ys : List Network) → length (xs ++ a ∷ ys) ≡ suc (length xs + length ys)
+length_around : (xs : List Network) (a : Network) (ys : List Network)
+    → length (xs ++ a ∷ ys) ≡ suc (length xs + length ys)
 length_around [] a ys = omega arith
 length_around (x ∷ xs) a ys = omega (arith, length_around xs a ys)
 
 pub joined_length : (w : ℕ) (list next : List Network) (k : ℕ) → Joins w list next k → length list ≡ suc (length next)
 joined_length w list next k j =
-    omega (arith, ap length j.list_is, ap length j.next_is, length_around j.before j.a (j.b ∷ j.behind), length_around j.before (joined w j.a j.b) j.behind)
+    omega (
+      arith,
+      ap length j.list_is,
+      ap length j.next_is,
+      length_around j.before j.a (j.b ∷ j.behind),
+      length_around j.before (joined w j.a j.b) j.behind,
+    )
 
 -- ---- a set
 
@@ -151,7 +136,8 @@ set_row w (a ∷ b ∷ xs) all pairs =
     let ha : IsCidrBlock w a = all a (contains_head a (b ∷ xs)) in (
       ha,
       omega (arith, near, ha.block, size_pos w a.prefix),
-      set_row w (b ∷ xs) (λ n c. all n (contains_tail a (b ∷ xs) n c)) (λ i j d l m. pairs (suc i) (suc j) d (omega arith) (omega arith)),
+      set_row w (b ∷ xs) (λ n c. all n (contains_tail a (b ∷ xs) n c))
+          (λ i j d l m. pairs (suc i) (suc j) d (omega arith) (omega arith)),
     )
 
 -- ---- many joins
@@ -164,7 +150,8 @@ pub record AddsUp (w : ℕ) (xs us : List Network) (j : ℕ) : Type 0 where
 nothing_added : (w : ℕ) (xs : List Network) → IsRow w xs → AddsUp w xs xs 0
 nothing_added w xs row = record { row = row; addresses = omega arith; blocks = some_addresses w xs }
 
-one_added : (w : ℕ) (xs us next : List Network) (j n : ℕ) → AddsUp w xs us j → Joins w us next n → AddsUp w xs next (j + n)
+one_added : (w : ℕ) (xs us next : List Network) (j n : ℕ) → AddsUp w xs us j → Joins w us next n
+    → AddsUp w xs next (j + n)
 one_added w xs us next j n h join = record {
   row = joined_row w us next n join h.row;
   addresses = omega (arith, h.addresses, joined_total w us next n join h.row);
@@ -174,15 +161,18 @@ one_added w xs us next j n h join = record {
 pub adds_up : (w v most : ℕ) (xs ys : List Network) → IsRow w xs → IsRow v ys → (us vs : List Network) (j k : ℕ)
     → Becomes w v most xs ys us vs j k → AddsUp w xs us j × AddsUp v ys vs k
 adds_up w v most xs ys hx hy us vs j k Same = (nothing_added w xs hx, nothing_added v ys hy)
-adds_up w v most xs ys hx hy us vs j k (InFirst {us = u} {vs = z} {next = next} {j = i} {k = l} {n = n} before many join few) =
+adds_up w v most xs ys hx hy us vs j k
+    (InFirst {us = u} {vs = z} {next = next} {j = i} {k = l} {n = n} before many join few) =
     let h = adds_up w v most xs ys hx hy u z i l before in
     (one_added w xs u next i n h.0 join, h.1)
-adds_up w v most xs ys hx hy us vs j k (InSecond {us = u} {vs = z} {next = next} {j = i} {k = l} {n = n} before many join few) =
+adds_up w v most xs ys hx hy us vs j k
+    (InSecond {us = u} {vs = z} {next = next} {j = i} {k = l} {n = n} before many join few) =
     let h = adds_up w v most xs ys hx hy u z i l before in
     (h.0, one_added v ys z next l n h.1 join)
 
 -- the others that one more join adds can be counted with 128 bits
-pub sum_fits : (w : ℕ) (xs us next : List Network) (j n : ℕ) → w ≤ 128 → AddsUp w xs us j → Joins w us next n → j + n < 2 ^ 128
+pub sum_fits : (w : ℕ) (xs us next : List Network) (j n : ℕ) → w ≤ 128 → AddsUp w xs us j → Joins w us next n
+    → j + n < 2 ^ 128
 sum_fits w xs us next j n few h join =
     let more = one_added w xs us next j n h join in
     let fits = row_fits w next more.row in

@@ -1,13 +1,5 @@
 -- The block that two networks are joined to.
-use Rattle.std.proofs.Common.{◌≡◌, ◌==◌, true, false, ℕ, zero, suc, ◌+◌, ◌-◌, ◌*◌, ◌/◌, ◌^◌, ◌<◌, ◌≤◌, ◌∷◌, [], min, refl, sym, ap, subst, ◌∙◌, arith, ⊎_elim}
-use Rattle.std.proofs.lemmas.Bool.{eqb-true, eqb-false, cases_Bool, cond-true, cond-false, cases_lt}
-use Rattle.std.proofs.lemmas.Nat.{shr-shr, shr_below, shr_high, pow-add, pow_pos}
-use Rattle.ipnetwork_family.specs.Bits.{SharesBits}
-use Rattle.ipnetwork_family.specs.Network.{Network, IsNetwork, block_size, block_at, low}
-use Rattle.ipnetwork_family.proofs.Blocks.{has_ends}
-use Rattle.ipnetwork_blocks.specs.Spanning.{IsSpanning}
-use Rattle.ipnetwork_blocks.proofs.SpanningBlock.{spans_both}
-use Rattle.reducing.specs.Joining.{shared, joined}
+use Rattle.reducing.proofs.Words.{◌≡◌, ◌==◌, true, false, ℕ, zero, suc, ◌+◌, ◌-◌, ◌*◌, ◌/◌, ◌^◌, ◌<◌, ◌≤◌, ◌∷◌, [], min, refl, sym, ap, subst, ◌∙◌, arith, ⊎_elim, eqb-true, eqb-false, cases_Bool, cond-true, cond-false, cases_lt, shr-shr, shr_below, shr_high, pow-add, pow_pos, SharesBits, Network, IsNetwork, block_size, block_at, low, has_ends, IsSpanning, spans_both, shared, joined}
 
 -- the halves of numbers of v + 1 bits agree in as many bits of v as the numbers do
 halved : (v q x : ℕ) → q ≤ v → x / 2 / block_size v q ≡ x / block_size (suc v) q
@@ -54,9 +46,11 @@ shared_shares (suc v) x y fx fy =
       agree = ap (λ z. z / block_size (suc v) (suc v)) (eqb-true x y e);
       greatest = λ q fits same. fits;
     } in
-    let r : Goal = subst (λ (k : ℕ). SharesBits (suc v) x y k) (sym (cond-true (x == y) (suc v) (shared v (x / 2) (y / 2)) e)) all in r)
+    let r : Goal = subst (λ (k : ℕ). SharesBits (suc v) x y k)
+    (sym (cond-true (x == y) (suc v) (shared v (x / 2) (y / 2)) e)) all in r)
     (λ (e : (x == y) ≡ false).
-    let r : Goal = subst (λ (k : ℕ). SharesBits (suc v) x y k) (sym (cond-false (x == y) (suc v) (shared v (x / 2) (y / 2)) e))
+    let r : Goal = subst (λ (k : ℕ). SharesBits (suc v) x y k)
+    (sym (cond-false (x == y) (suc v) (shared v (x / 2) (y / 2)) e))
     (halves_share v x y (shared v (x / 2) (y / 2)) (eqb-false x y e) (shared_shares v (x / 2) (y / 2) hx hy)) in r)
     (cases_Bool (x == y))
 
@@ -68,7 +62,8 @@ pub joined_prefix : (w s p : ℕ) (a b : Network) → IsNetwork w a → IsNetwor
 unfolding joined
 joined_prefix w s p a b an bn h is =
     let k = shared_shares w (low w a) (low w b) (low_fits w a an) (low_fits w b bn) in
-    let one : s ≡ shared w (low w a) (low w b) = omega (arith, h.greatest (shared w (low w a) (low w b)) k.within k.agree, k.greatest s h.within h.agree) in
+    let one : s ≡ shared w (low w a) (low w b) =
+    omega (arith, h.greatest (shared w (low w a) (low w b)) k.within k.agree, k.greatest s h.within h.agree) in
     is ∙ ap (λ q. min (min q a.prefix) b.prefix) one
 
 pub joined_spans : (w : ℕ) (a b : Network) → IsNetwork w a → IsNetwork w b → IsSpanning w (a ∷ b ∷ []) (joined w a b)
@@ -91,5 +86,6 @@ ones_shifted k h =
     let some : 2 ^ h ≡ suc (2 ^ h - 1) = omega (arith, pow_pos h) in
     let split : 2 ^ (k + h) - 1 ≡ (2 ^ h - 1) * 2 ^ k + (2 ^ k - 1) =
     ap (λ n. n - 1) (parts ∙ ap (λ n. n * 2 ^ k) some) ∙ less_one (2 ^ h - 1) (2 ^ k) (pow_pos k) in
-    let high : (2 ^ (k + h) - 1) / 2 ^ k ≡ 2 ^ h - 1 = ap (λ z. z / 2 ^ k) split ∙ shr_high (2 ^ h - 1) k (2 ^ k - 1) (omega (arith, pow_pos k)) in
+    let high : (2 ^ (k + h) - 1) / 2 ^ k ≡ 2 ^ h - 1 = ap (λ z. z / 2 ^ k) split
+    ∙ shr_high (2 ^ h - 1) k (2 ^ k - 1) (omega (arith, pow_pos k)) in
     omega (arith, high, pow_pos h)

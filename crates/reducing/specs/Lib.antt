@@ -1,4 +1,3 @@
 pub mod Joining
 pub mod Reducing
-pub mod ReducingLaws
 pub mod Private

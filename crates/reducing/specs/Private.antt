@@ -1,2 +1,2 @@
-pub mod Parts
+pub mod ListParts
 pub mod Trees

@@ -3,7 +3,6 @@
 #![tactic(auto)]
 
 mod joining;
-pub mod laws;
 mod reduction;
 mod span;
 mod tree;

@@ -1,7 +1,7 @@
 //! What a part of a list tells of itself to what is before and behind it.
 ghost use Rattle.std.specs.Prelude.{◌≡◌, ◌++◌, [], List, Some};
 ghost use Rattle.ipnetwork_family.specs.Network.{Network};
-ghost use Rattle.reducing.specs.Private.Parts.{IsSpan, IsBetween, least, no_pair};
+ghost use Rattle.reducing.specs.Private.ListParts.{IsSpan, IsBetween, least, no_pair};
 ghost use Rattle.reducing.specs.Private.Trees.{alone};
 
 use crate::joining::others;

@@ -3,7 +3,7 @@
 ghost use Rattle.std.specs.Prelude.{◌≡◌, ◌<◌, ◌++◌, ◌∷◌, [], List, Some};
 ghost use Rattle.ipnetwork_family.specs.Network.{Network};
 ghost use Rattle.reducing.specs.Joining.{joined};
-ghost use Rattle.reducing.specs.Private.Parts.{IsSpan, JoinsFirst, least, no_pair};
+ghost use Rattle.reducing.specs.Private.ListParts.{IsSpan, JoinsFirst, least, no_pair};
 ghost use Rattle.reducing.specs.Private.Trees.{IsTaken, IsTree, alone, blocks, from_end};
 
 use crate::joining::joined;

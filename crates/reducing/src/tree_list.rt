@@ -1,6 +1,6 @@
 //! A list of blocks in which neighbours are joined.
 ghost use Rattle.std.specs.Prelude.{◌≡◌, ◌<◌, ◌++◌, IfOk, OnOk, length, map};
-ghost use Rattle.reducing.specs.Private.Parts.{JoinsFirst, least, no_pair};
+ghost use Rattle.reducing.specs.Private.ListParts.{JoinsFirst, least, no_pair};
 ghost use Rattle.reducing.specs.Private.Trees.{alone};
 
 use crate::span::least;

@@ -7,10 +7,10 @@ use crate::commands::has::{has, has4};
 use crate::commands::read::{read, read4, read6};
 use crate::commands::rel::rel;
 use crate::commands::routing::{add, drop, find};
+use crate::cutting::cut_word;
 use crate::names;
 use crate::replies::reply;
 use crate::route_tables::RouteTables;
-use crate::words::cut_word;
 use cidr_programs::lines::buffer::Buffer;
 
 /// The answer to a line that is not a command.

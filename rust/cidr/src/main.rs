@@ -10,12 +10,12 @@ use fosibegan_core::plain_std::rt::HostRuntime;
 
 mod answering;
 mod commands;
+mod cutting;
 mod dispatch;
 mod names;
 mod replies;
 mod route_tables;
 mod run;
-mod words;
 
 use crate::run::run;
 use cidr_programs::lines::fault::RunFault;

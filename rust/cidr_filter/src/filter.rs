@@ -24,20 +24,6 @@ pub enum Verdict {
     TooLong,
 }
 
-impl Verdict {
-    /// Returns whether a line with this verdict has an address where one is looked for. A line that
-    /// is too long has none.
-    #[inline(always)]
-    pub(crate) fn is_addressed(&self) -> bool {
-        match *self {
-            Verdict::Inside(_) => true,
-            Verdict::Outside => true,
-            Verdict::NoAddress => false,
-            Verdict::TooLong => false,
-        }
-    }
-}
-
 /// The family whose addresses count. Others are ignored.
 #[derive(Clone, Copy, Debug, PartialEq, Eq)]
 pub enum Family {

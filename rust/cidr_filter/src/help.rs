@@ -2,8 +2,11 @@
 
 //! What the program prints about itself.
 
+use cidr_programs::log_programs::help::log_help;
+
 /// What `--help` prints.
-pub(crate) const HELP: &str = "\
+pub(crate) const HELP: &str = log_help!(
+    "\
 Prints the lines of logs whose address is in a list of IP networks.
 
     cidr_filter [OPTION..] (-f LIST | -e TEXT).. [FILE..]
@@ -12,19 +15,13 @@ Prints the lines of logs whose address is in a list of IP networks.
                     file, one on each line; # and ; begin a comment; - is standard input
     -e TEXT         add this network or range
     --skip-bad      report refused lines of the lists and use the others; without this option, a
-                    refused line ends the program before any log is read
-    -k N            the address is field N; the default is 1
-    -d CHAR         every single CHAR separates fields; the default is every space
-    -w              runs of spaces and tabs separate fields. Not with -d
+                    refused line ends the program before any log is read",
+    "
     -a              look for addresses anywhere in a line, or anywhere in the field that -k, -d or
                     -w select: 10.1.1.1:51234, [10.1.1.1], SRC=10.1.1.1 and [2001:db8::1]:443 have
                     one; v10.1.2.3, 1.2.3.4.5 and 12:34:56 have none. A line is selected if one of
-                    its addresses is in a network
-    --nth WHICH     use only this one of the addresses found: first, last, or a number from 1 up; -a
-                    need not be given
-    --after TEXT    the address is the first one after the first TEXT in a line, found as by -a, or
-                    the one that --nth selects; a line without TEXT has none: --after SRC=. Not with
-                    -a, -k, -d or -w
+                    its addresses is in a network",
+    "
     -o              print the addresses that are in a network, and with --networks the networks, one
                     on each line, instead of lines. Not with -v or --longest
     --mapped        treat an address ::ffff:A.B.C.D of a line as A.B.C.D
@@ -79,7 +76,8 @@ Examples:
     tail -f access.log | cidr_filter -v -e 10.0.0.0/8
     cidr_filter -c -k 3 -d , -f networks.txt table.csv
     cidr_filter -k 2 -d , --nth last -f networks.txt proxied.csv
-";
+"
+);
 
 /// What `--version` prints.
 pub(crate) const VERSION: &str = "cidr_filter 0.2.0-dev (plain Rust, made of proved sources)\n";

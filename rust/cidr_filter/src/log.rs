@@ -3,7 +3,6 @@
 //! Filters the lines of a log.
 
 use crate::filter::{Filter, Verdict};
-use crate::leaving::{fewer, is_spent, leave};
 use crate::printing::{print_selected, prints_as_read};
 use crate::recent::Recent;
 use cidr_programs::lines::line_end::LineEnd;
@@ -32,12 +31,32 @@ pub struct Tally {
     pub seen: LogStats,
 }
 
+impl Tally {
+    /// Returns the counts of no lines.
+    pub(crate) fn new() -> Tally {
+        Tally {
+            selected: 0,
+            seen: LogStats::new(),
+        }
+    }
+
+    // Counts a line with this verdict.
+    fn add(&mut self, verdict: &Verdict, is_selected: bool) {
+        match *verdict {
+            Verdict::TooLong => self.seen.add_long(),
+            Verdict::NoAddress => self.seen.add(false),
+            Verdict::Inside(_) | Verdict::Outside => self.seen.add(true),
+        }
+        self.selected = self.selected.saturating_add(u64::from(is_selected));
+    }
+}
+
 /// Filters the lines of a log, up to the last that may be selected, and writes or only counts the
 /// selected ones. No line after that is asked for, so none is waited for.
 ///
 /// What is printed for the lines that a read completes is written before the next read. After a
 /// failed read nothing is written. If lines that are too long end the run, one does so even before
-/// its end was read. The counts of the lines in `tally` start anew.
+/// its end was read.
 pub(crate) fn filter_log<R: Read, W: Write>(
     filter: &Filter,
     log: &mut LogReader<'_>,
@@ -45,45 +64,44 @@ pub(crate) fn filter_log<R: Read, W: Write>(
     output: &mut Output<'_, W>,
     tally: &mut Tally,
 ) -> Result<Reached, LogFault> {
-    tally.seen = LogStats::new();
     let refuses_long_lines = filter.refuses(&Verdict::TooLong);
-    let mut left = filter.most;
-    let mut recent = Recent::new(tally.selected);
     let as_read = prints_as_read(filter);
-    if is_spent(left) {
-        return leave(output);
-    }
-    'lines: loop {
+    let mut recent = Recent::new(0);
+    'lines: while !is_spent(filter.most, tally.selected) {
         match log.next(reader, output) {
             Ok(NextLogLine::Line(end)) => {
-                let line = log.line();
-                let whole = log.whole_line();
+                let (line, whole) = (log.line(), log.whole_line());
                 let is_copied = as_read && recent.are_many;
-                match filter_line(filter, line, whole, end, is_copied, output, tally) {
-                    Ok(is_selected) => {
-                        left = fewer(left, is_selected);
-                        recent.note(tally.seen.lines, tally.selected);
-                    }
-                    Err(fault) => return Err(fault),
-                }
-                if is_spent(left) {
-                    return leave(output);
-                }
+                filter_line(filter, line, whole, end, is_copied, output, tally)?;
+                recent.note(tally.seen.lines, tally.selected);
             }
             Ok(NextLogLine::TooLong) => {
                 if refuses_long_lines {
                     return Err(LogFault::Length);
                 }
-                tally.seen.add_long();
+                tally.add(&Verdict::TooLong, false);
             }
             Ok(NextLogLine::End) => return Ok(Reached::End),
             Err(fault) => return Err(fault),
         }
     }
+    match output.hand_on() {
+        Ok(()) => Ok(Reached::Last),
+        Err(_) => Err(LogFault::Write),
+    }
 }
 
-// Filters a line within the limit, and returns whether it is selected. `whole` is the line with
-// its end. If `is_copied`, the line may be copied before it is known whether it is selected.
+// Returns whether no more lines may be selected.
+#[inline(always)]
+fn is_spent(most: Option<u64>, selected: u64) -> bool {
+    match most {
+        Some(most) => selected >= most,
+        None => false,
+    }
+}
+
+// Filters a line within the limit. `whole` is the line with its end. If `is_copied`, the line may
+// be copied before it is known whether it is selected.
 fn filter_line<W: Write>(
     filter: &Filter,
     line: &[u8],
@@ -92,7 +110,7 @@ fn filter_line<W: Write>(
     is_copied: bool,
     output: &mut Output<'_, W>,
     tally: &mut Tally,
-) -> Result<bool, LogFault> {
+) -> Result<(), LogFault> {
     if is_copied && has_feed(end) {
         if let Some(is_selected) = filter.selects_by_address(line) {
             return pass_line(is_selected, whole, output, tally);
@@ -108,11 +126,10 @@ fn pass_line<W: Write>(
     whole: &[u8],
     output: &mut Output<'_, W>,
     tally: &mut Tally,
-) -> Result<bool, LogFault> {
-    tally.seen.add(true);
-    tally.selected = tally.selected.saturating_add(u64::from(is_selected));
+) -> Result<(), LogFault> {
+    tally.add(&Verdict::Outside, is_selected);
     match output.put_if(whole, is_selected) {
-        Ok(()) => Ok(is_selected),
+        Ok(()) => Ok(()),
         Err(_) => Err(LogFault::Write),
     }
 }
@@ -134,26 +151,21 @@ fn filter_judged<W: Write>(
     end: LineEnd,
     output: &mut Output<'_, W>,
     tally: &mut Tally,
-) -> Result<bool, LogFault> {
+) -> Result<(), LogFault> {
     let verdict = filter.judge(line);
     if filter.refuses(&verdict) {
-        return Err(refusal_of(&verdict));
+        return match verdict {
+            Verdict::TooLong => Err(LogFault::Length),
+            _ => Err(LogFault::Address),
+        };
     }
-    tally.seen.add(verdict.is_addressed());
-    if !filter.selects(&verdict) {
-        return Ok(false);
+    let is_selected = filter.selects(&verdict);
+    tally.add(&verdict, is_selected);
+    if !is_selected {
+        return Ok(());
     }
-    tally.selected = tally.selected.saturating_add(1);
     match print_selected(filter, tally.seen.lines, &verdict, line, whole, end, output) {
-        Ok(()) => Ok(true),
+        Ok(()) => Ok(()),
         Err(_) => Err(LogFault::Write),
-    }
-}
-
-// Returns the fault of a line with this verdict that ends the run.
-fn refusal_of(verdict: &Verdict) -> LogFault {
-    match *verdict {
-        Verdict::TooLong => LogFault::Length,
-        _ => LogFault::Address,
     }
 }

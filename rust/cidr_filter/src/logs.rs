@@ -11,12 +11,10 @@ use cidr_programs::line_addresses::Text;
 use cidr_programs::lines::output::Output;
 use cidr_programs::lines::watched::Watched;
 use cidr_programs::lists::{OpenFault, OpenLists, open_input, open_list};
-use cidr_programs::log_programs::log_stats::LogStats;
 use cidr_programs::log_programs::telling::{is_missed, tell_closed, tell_lacking, tell_seen};
 use cidr_programs::program::ending::{FAILED, end};
-use cidr_programs::program::log_fault::stop;
+use cidr_programs::program::log_fault::{LogFault, stop};
 use cidr_programs::program::log_reader::LogReader;
-use cidr_programs::program::messages::tell_of;
 use fosibegan_core::plain_std::io::Write;
 use std::mem::replace;
 
@@ -25,6 +23,51 @@ const SELECTED: u8 = 0;
 
 /// The exit status if none was.
 const NONE_SELECTED: u8 = 1;
+
+/// What a log, or logs, come to.
+#[derive(Clone, Copy, Debug, PartialEq, Eq)]
+pub struct Outcome {
+    /// How many of its lines are selected.
+    pub selected: u64,
+    /// Whether it could not be opened, or a line of it is missed.
+    pub missed: bool,
+}
+
+impl Outcome {
+    // Returns what no logs come to.
+    fn new() -> Outcome {
+        Outcome {
+            selected: 0,
+            missed: false,
+        }
+    }
+
+    // Returns what logs and one more come to.
+    fn with(self, one: Outcome) -> Outcome {
+        Outcome {
+            selected: self.selected.saturating_add(one.selected),
+            missed: self.missed || one.missed,
+        }
+    }
+
+    // Returns whether no log more is opened after logs that come to this.
+    fn is_enough(self, is_silent: bool) -> bool {
+        is_silent && self.selected > 0
+    }
+
+    // Returns the exit status.
+    fn status(self, is_silent: bool) -> u8 {
+        if self.is_enough(is_silent) {
+            SELECTED
+        } else if self.missed {
+            FAILED
+        } else if self.selected > 0 {
+            SELECTED
+        } else {
+            NONE_SELECTED
+        }
+    }
+}
 
 /// Filters the logs of these names in their order, and returns the exit status.
 pub(crate) fn filter_logs<'a, L: OpenLists, W: Write, E: Write>(
@@ -35,55 +78,30 @@ pub(crate) fn filter_logs<'a, L: OpenLists, W: Write, E: Write>(
     output: &mut Output<'_, W>,
     errors: &mut Output<'_, E>,
 ) -> u8 {
-    let mut selected = 0;
     let is_silent = filter.is_silent();
-    match filter_each(filter, &mut selected, lists, files, buffer, output, errors) {
-        Some(missed) => {
-            let written = output.finish();
-            let is_enough = is_enough(is_silent, selected);
-            let status = status(is_enough, missed, selected);
-            end(PROGRAM, written, status, errors)
+    let mut total = Outcome::new();
+    for file in files {
+        if total.is_enough(is_silent) {
+            return finish(total.status(is_silent), output, errors);
         }
-        None => FAILED,
+        let name = file.as_str();
+        let Some(next) = filter_one(filter, lists, name, buffer, total, output, errors) else {
+            return FAILED;
+        };
+        total = next;
     }
+    finish(total.status(is_silent), output, errors)
 }
 
-// Filters the logs with these names up to the first that ends the run, adds how many of their lines
-// are selected, and returns whether one of the logs could not be opened or a line of one is missed,
-// which is reported. If a fault ends the filtering of a log that was opened, or the number of its
-// lines cannot be written, that is reported and `None` is returned.
-fn filter_each<'a, L: OpenLists, W: Write, E: Write>(
-    filter: &mut Filter<'a>,
-    selected: &mut u64,
-    lists: &L,
-    files: &'a [String],
-    buffer: &mut [u8],
+// Writes what waits, and returns the exit status: this one, or 2 if a write failed, which is
+// reported.
+fn finish<W: Write, E: Write>(
+    status: u8,
     output: &mut Output<'_, W>,
     errors: &mut Output<'_, E>,
-) -> Option<bool> {
-    let is_silent = filter.is_silent();
-    let mut missed = false;
-    for file in files {
-        let name = file.as_str();
-        let Some(more) = filter_one(filter, selected, lists, name, buffer, output, errors) else {
-            return None;
-        };
-        missed = either(missed, more);
-        if is_enough(is_silent, *selected) {
-            return Some(missed);
-        }
-    }
-    Some(missed)
-}
-
-// Returns whether the run ends after logs with this number of selected lines.
-fn is_enough(is_silent: bool, selected: u64) -> bool {
-    is_silent && selected > 0
-}
-
-// Returns whether one of the two is true.
-fn either(first: bool, second: bool) -> bool {
-    first || second
+) -> u8 {
+    let written = output.finish();
+    end(PROGRAM, written, status, errors)
 }
 
 // Opens the log with this name. If lines or their addresses are printed, it refuses the file that
@@ -99,83 +117,61 @@ fn open_log<L: OpenLists>(
     }
 }
 
-// Opens the log with this name and filters it, adds how many of its lines are selected, and returns
-// whether it could not be opened or a line of it is missed, as `filter_each` does.
+// Opens the log with this name and filters it, and returns what the logs up to it come to; those
+// before it came to `total`. What is missed is reported. If a fault ends the run, that is reported
+// and `None` is returned.
 fn filter_one<'a, L: OpenLists, W: Write, E: Write>(
     filter: &mut Filter<'a>,
-    selected: &mut u64,
     lists: &L,
     name: &'a str,
     buffer: &mut [u8],
+    total: Outcome,
     output: &mut Output<'_, W>,
     errors: &mut Output<'_, E>,
-) -> Option<bool> {
+) -> Option<Outcome> {
     let mut log = match open_log(filter.shows, lists, name) {
         Ok(log) => log,
         Err(cause) => {
             tell_closed(PROGRAM, name, cause, errors);
-            return Some(true);
+            return Some(total.with(Outcome {
+                selected: 0,
+                missed: true,
+            }));
         }
     };
     let label = label_of(filter.named, name);
     let before = replace(&mut filter.name, Text::new(label));
-    let mut tally = Tally {
-        selected: 0,
-        seen: LogStats::new(),
-    };
+    let mut tally = Tally::new();
     let mut lines = LogReader::new(buffer, filter.refuses(&Verdict::TooLong));
     let end = filter_log(filter, &mut lines, &mut log, output, &mut tally);
     filter.name = before;
     lists.close(name, log);
-    *selected = selected.saturating_add(tally.selected);
-    let seen = tally.seen;
+    let (selected, seen) = (tally.selected, tally.seen);
     tell_seen(PROGRAM, name, filter.bad, &seen, errors);
-    let counts = filter.counts();
-    let is_missed = is_missed(filter.bad, &seen);
     match end {
-        Ok(Reached::End) => {
-            let (lines, is_addressed) = (seen.lines, seen.is_addressed);
-            tell_lacking(PROGRAM, &filter.area, name, lines, is_addressed, errors);
-            write_count(counts, label, tally.selected, is_missed, output, errors)
-        }
-        Ok(Reached::Last) => {
-            write_count(counts, label, tally.selected, is_missed, output, errors)
+        Ok(reached) => {
+            if reached == Reached::End {
+                tell_lacking(
+                    PROGRAM,
+                    &filter.area,
+                    name,
+                    seen.lines,
+                    seen.is_addressed,
+                    errors,
+                );
+            }
+            if put_count(filter.counts(), label, selected, output).is_ok() {
+                return Some(total.with(Outcome {
+                    selected,
+                    missed: is_missed(filter.bad, &seen),
+                }));
+            }
+            stop(PROGRAM, name, LogFault::Write, seen.lines, output, errors);
+            None
         }
         Err(fault) => {
             stop(PROGRAM, name, fault, seen.lines, output, errors);
             None
         }
-    }
-}
-
-// Writes how many lines of a log were selected, if lines are counted, and returns `is_missed`. If a
-// write fails, it is reported, and `None` is returned.
-fn write_count<W: Write, E: Write>(
-    counts: bool,
-    label: &[u8],
-    selected: u64,
-    is_missed: bool,
-    output: &mut Output<'_, W>,
-    errors: &mut Output<'_, E>,
-) -> Option<bool> {
-    match put_count(counts, label, selected, output) {
-        Ok(()) => Some(is_missed),
-        Err(_) => {
-            tell_of(PROGRAM, ": write error\n", errors);
-            None
-        }
-    }
-}
-
-// Returns the exit status; `missed` tells whether a log or a line was missed.
-fn status(is_enough: bool, missed: bool, selected: u64) -> u8 {
-    if is_enough {
-        SELECTED
-    } else if missed {
-        FAILED
-    } else if selected > 0 {
-        SELECTED
-    } else {
-        NONE_SELECTED
     }
 }

@@ -10,7 +10,6 @@ use fosibegan_core::plain_std::rt::HostRuntime;
 
 mod filter;
 mod help;
-mod leaving;
 mod log;
 mod logs;
 mod matcher;

@@ -68,11 +68,11 @@ fn listed_by(
 ) -> (Result<Matcher, AllocError>, Refusals) {
     match question {
         Question::Address => {
-            let (v4, v6, refusals) = reader.into_sets();
+            let (v4, v6, refusals) = into_sets(reader);
             (addresses_of(alloc, &v4, &v6), refusals)
         }
         Question::Network => {
-            let (v4, v6, refusals) = reader.into_sets();
+            let (v4, v6, refusals) = into_sets(reader);
             let set = IpAddressSet::from_parts(v4, v6);
             (Ok(Matcher::Networks(set)), refusals)
         }
@@ -81,6 +81,16 @@ fn listed_by(
             (blocks_of(alloc, v4, v6), refusals)
         }
     }
+}
+
+// Returns the sets of the addresses that were read, and the refused lines.
+fn into_sets(reader: ListReader) -> (AddressSet<Ipv4Network>, AddressSet<Ipv6Network>, Refusals) {
+    let (v4, v6, refusals) = reader.into_networks();
+    (
+        AddressSet::from_networks(v4),
+        AddressSet::from_networks(v6),
+        refusals,
+    )
 }
 
 // Reads the lists that the options name.

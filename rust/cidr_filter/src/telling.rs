@@ -53,10 +53,8 @@ fn texts_in(items: &[Item<'_>]) -> usize {
 /// or `-e`; empty for an item that names no list. Returns `AllocError` if memory runs out.
 pub(crate) fn names_of(alloc: Global, items: &[Item<'_>]) -> Result<Vec<String>, AllocError> {
     let mut names = Vec::new(alloc);
-    let mut at = 0;
-    while at < items.len() {
-        names.push(told_name(alloc, &items[at])?)?;
-        at += 1;
+    for item in items {
+        names.push(told_name(alloc, item)?)?;
     }
     Ok(names)
 }

@@ -10,7 +10,7 @@ Prints facts about IP networks: addresses, masks, sizes and names.
     cidr_info --in OUTER NETWORK..
 
     --json          print one JSON object on a line for each NETWORK, with the names and values
-                    below; numbers are strings too, since they can exceed 2^53
+                    of its lines; numbers are strings too, since they can exceed 2^53
     --in OUTER      print nothing: the status tells whether every NETWORK lies within this network.
                     Not with --json
     --quiet         as the first word: do not show on a terminal how much was read

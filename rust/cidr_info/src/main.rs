@@ -15,9 +15,9 @@ mod printing;
 mod rows;
 mod run;
 mod said;
+mod said_words;
 mod telling;
 mod value;
-mod words;
 mod zone;
 
 use crate::help::{PROGRAM, USAGE};

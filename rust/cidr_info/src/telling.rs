@@ -15,15 +15,9 @@ use fosibegan_core::plain_std::io::Write;
 /// Reports each of these texts that names no network.
 pub(crate) fn tell_refusals<E: Write>(all: &[Said<'_>], errors: &mut Output<'_, E>) {
     for said in all {
-        tell_if_refused(said, errors);
-    }
-}
-
-// Reports a text if it names no network.
-fn tell_if_refused<E: Write>(said: &Said<'_>, errors: &mut Output<'_, E>) {
-    match said.network() {
-        Some(_) => {}
-        None => tell_refusal(said, errors),
+        if said.network().is_none() {
+            tell_refusal(said, errors);
+        }
     }
 }
 
@@ -59,7 +53,6 @@ fn cause_word(text: &[u8]) -> &'static str {
 
 // Returns why a plain text names no network, in one word.
 fn plain_word(text: &[u8]) -> &'static str {
-    // These two calls do nothing: the proof of this body needs their laws.
     match cause(text) {
         Some(CidrFault::Format) => "format",
         Some(CidrFault::Prefix) => "prefix",

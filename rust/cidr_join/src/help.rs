@@ -2,8 +2,11 @@
 
 //! What the program prints about itself.
 
+use cidr_programs::log_programs::help::log_help;
+
 /// What `--help` prints.
-pub(crate) const HELP: &str = "\
+pub(crate) const HELP: &str = log_help!(
+    "\
 Prints the lines of logs, each with the value that a list gives its address.
 
     cidr_join [OPTION..] -f LIST.. [FILE..]
@@ -16,18 +19,12 @@ Prints the lines of logs, each with the value that a list gives its address.
     --last-wins     a network that the lists have twice gets its last value; without this option,
                     the second one is refused
     --skip-bad      report refused lines of the lists and use the others; without this option, the
-                    first refused line ends the program before any log is read
-    -k N            the address is field N; the default is 1
-    -d CHAR         every single CHAR separates fields; the default is every space
-    -w              runs of spaces and tabs separate fields. Not with -d
+                    first refused line ends the program before any log is read",
+    "
     -a              the address is the first one anywhere in a line, or anywhere in the field that
                     -k, -d or -w select: 10.1.1.1:51234, [10.1.1.1], SRC=10.1.1.1 and
-                    [2001:db8::1]:443 have one; v10.1.2.3, 1.2.3.4.5 and 12:34:56 have none
-    --nth WHICH     use only this one of the addresses found: first, last, or a number from 1 up; -a
-                    need not be given
-    --after TEXT    the address is the first one after the first TEXT in a line, found as by -a, or
-                    the one that --nth selects; a line without TEXT has none: --after SRC=. Not with
-                    -a, -k, -d or -w
+                    [2001:db8::1]:443 have one; v10.1.2.3, 1.2.3.4.5 and 12:34:56 have none",
+    "
     --mapped        treat an address ::ffff:A.B.C.D of a line as A.B.C.D
     --networks      also look up the networks in a line (10.1.0.0/16), by the longest network of the
                     list, or the block of --group, that has all its addresses; without this option
@@ -72,7 +69,8 @@ Examples:
     cidr_join --tally -f countries.csv access.log
     cidr_join --group 24,64 --tally access.log
     tail -f access.log | cidr_join --last --network -f networks.txt
-";
+"
+);
 
 /// What `--version` prints.
 pub(crate) const VERSION: &str = "cidr_join 0.2.0-dev (plain Rust, made of proved sources)\n";

@@ -6,18 +6,19 @@ use fosibegan_core::plain_std::string::String;
 use crate::help::PROGRAM;
 use crate::join::Join;
 use crate::log::join_log;
-use crate::missing::either;
+use crate::missing::{either, status};
 use crate::telling::tell_unaddressed;
 use cidr_programs::lines::output::Output;
 use cidr_programs::lists::{OpenLists, open_input};
 use cidr_programs::log_programs::log_stats::LogStats;
 use cidr_programs::log_programs::telling::{is_missed, tell_closed, tell_seen};
+use cidr_programs::program::ending::{FAILED, end};
 use cidr_programs::program::log_fault::stop;
 use fosibegan_core::plain_std::io::Write;
 
-/// Joins the logs with these names in turn, and returns whether one could not be opened or a line
-/// of one is missed. If one that was opened is not joined to its end, the cause is reported and
-/// `None` is returned. The reports about the lines of each log are written after it.
+/// Joins the logs with these names in turn, and returns the exit status. If one that was opened is
+/// not joined to its end, the cause is reported, and no other is read. The reports about the lines
+/// of each log are written after it.
 pub(crate) fn join_logs<L: OpenLists, W: Write, E: Write>(
     join: &Join<'_>,
     lists: &L,
@@ -25,20 +26,22 @@ pub(crate) fn join_logs<L: OpenLists, W: Write, E: Write>(
     buffer: &mut [u8],
     output: &mut Output<'_, W>,
     errors: &mut Output<'_, E>,
-) -> Option<bool> {
+) -> u8 {
     let mut missed = false;
     for file in files {
         let name = file.as_str();
         let Some(more) = join_one(join, lists, name, buffer, output, errors) else {
-            return None;
+            return FAILED;
         };
         missed = either(missed, more);
     }
-    Some(missed)
+    let written = output.finish();
+    end(PROGRAM, written, status(missed), errors)
 }
 
 // Opens the log with this name and joins its lines, and returns whether it could not be opened or
-// a line is missed, as `join_logs` does.
+// a line is missed. If it was opened and is not joined to its end, the cause is reported, and
+// `None` is returned.
 fn join_one<L: OpenLists, W: Write, E: Write>(
     join: &Join<'_>,
     lists: &L,

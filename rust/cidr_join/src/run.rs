@@ -10,7 +10,6 @@ use crate::join::Join;
 use crate::lengths::Lengths;
 use crate::list::ListRules;
 use crate::logs::join_logs;
-use crate::missing::status;
 use crate::reading::{ReadList, read_lists, take_lists};
 use crate::routes::Routes;
 use crate::rows::{BAD, GROUP, LAST, LAST_WINS, NETWORK, NETWORKS, SKIPS_BAD, TALLY, ZERO, table};
@@ -26,7 +25,7 @@ use cidr_programs::options::given::{inputs_of, is_given, value_of};
 use cidr_programs::options::items::Item;
 use cidr_programs::options::refusing::refuse;
 use cidr_programs::options::values::lengths_in;
-use cidr_programs::program::ending::{FAILED, end};
+use cidr_programs::program::ending::FAILED;
 use cidr_programs::program::log_reader::BUFFER_LEN;
 use cidr_programs::program::memory::refuse_memory;
 use fosibegan_core::plain_std::alloc::Global;
@@ -159,11 +158,7 @@ fn join_by<'a, L: OpenLists, W: Write, E: Write>(
     if is_given(items, TALLY) {
         return tally_logs(alloc, &join, lists, buffer, files, output, errors);
     }
-    let Some(missed) = join_logs(&join, lists, files, buffer, output, errors) else {
-        return FAILED;
-    };
-    let written = output.finish();
-    end(PROGRAM, written, status(missed), errors)
+    join_logs(&join, lists, files, buffer, output, errors)
 }
 
 // Returns what decides what is printed for a line.

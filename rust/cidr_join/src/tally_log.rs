@@ -16,16 +16,8 @@ use cidr_programs::program::log_reader::{LogReader, NextLogLine};
 use fosibegan_core::plain_std::alloc::{AllocError, Global};
 use fosibegan_core::plain_std::io::Read;
 
-/// Why the lines of a log are not counted to its end.
-#[derive(Clone, Copy, Debug, PartialEq, Eq)]
-pub enum TallyFault {
-    /// A fault of the log.
-    Log(LogFault),
-    /// Out of memory.
-    OutOfMemory,
-}
-
-/// Counts the lines of a log, and what is found for their addresses or networks.
+/// Counts the lines of a log, and what is found for their addresses or networks. Only memory is
+/// written to, so `LogFault::Write` says that memory ran out.
 ///
 /// A line that is too long counts as one without an address. If such lines end the run, one does so
 /// even before its end was read. The counts in `seen` start anew.
@@ -37,7 +29,7 @@ pub(crate) fn tally_log<R: Read>(
     reader: &mut Watched<R>,
     counts: &mut Counts,
     seen: &mut LogStats,
-) -> Result<(), TallyFault> {
+) -> Result<(), LogFault> {
     // Nothing is put into it, so nothing is written before a read.
     let mut slice = [0; 1];
     let mut nothing = Output::new(Vec::new(alloc), &mut slice);
@@ -54,28 +46,16 @@ pub(crate) fn tally_log<R: Read>(
             }
             Ok(NextLogLine::TooLong) => {
                 if stops {
-                    return Err(TallyFault::Log(LogFault::Length));
+                    return Err(LogFault::Length);
                 }
                 seen.add_long();
                 if let Err(_) = count_asked(alloc, join, numbered, None, counts) {
-                    return Err(TallyFault::OutOfMemory);
+                    return Err(LogFault::Write);
                 }
             }
             Ok(NextLogLine::End) => return Ok(()),
-            Err(fault) => return Err(tally_fault(fault)),
+            Err(fault) => return Err(fault),
         }
-    }
-}
-
-// Returns the fault of a log as a fault of counting: a write to memory fails only if memory runs
-// out.
-fn tally_fault(fault: LogFault) -> TallyFault {
-    match fault {
-        LogFault::Read => TallyFault::Log(LogFault::Read),
-        LogFault::Write => TallyFault::OutOfMemory,
-        LogFault::Address => TallyFault::Log(LogFault::Address),
-        LogFault::Length => TallyFault::Log(LogFault::Length),
-        LogFault::Endless => TallyFault::Log(LogFault::Endless),
     }
 }
 
@@ -87,15 +67,15 @@ fn count_line(
     line: &[u8],
     counts: &mut Counts,
     seen: &mut LogStats,
-) -> Result<(), TallyFault> {
+) -> Result<(), LogFault> {
     let asked = join.network_in(line);
     if join.refuses(asked) {
-        return Err(TallyFault::Log(LogFault::Address));
+        return Err(LogFault::Address);
     }
     seen.add(asked.is_some());
     match count_asked(alloc, join, numbered, asked, counts) {
         Ok(()) => Ok(()),
-        Err(_) => Err(TallyFault::OutOfMemory),
+        Err(_) => Err(LogFault::Write),
     }
 }
 

@@ -8,7 +8,7 @@ use crate::help::PROGRAM;
 use crate::join::Join;
 use crate::missing::{either, status};
 use crate::tally::Row;
-use crate::tally_log::{TallyFault, tally_log};
+use crate::tally_log::tally_log;
 use crate::telling::tell_unaddressed;
 use crate::value_ids::ValueIds;
 use cidr_programs::lines::fault::RunFault;
@@ -18,7 +18,7 @@ use cidr_programs::log_programs::log_stats::LogStats;
 use cidr_programs::log_programs::telling::{is_missed, tell_closed, tell_seen};
 use cidr_programs::log_programs::without_address::WithoutAddress;
 use cidr_programs::program::ending::{FAILED, end};
-use cidr_programs::program::log_fault::tell_log_fault;
+use cidr_programs::program::log_fault::{LogFault, tell_log_fault};
 use cidr_programs::program::memory::refuse_memory;
 use cidr_programs::program::messages::{number_text, tell_of};
 use cidr_programs::program::putting::put_both;
@@ -126,16 +126,16 @@ fn tally_one<L: OpenLists, E: Write>(
 fn tell_stop<E: Write>(
     bad: WithoutAddress,
     name: &str,
-    fault: TallyFault,
+    fault: LogFault,
     seen: &LogStats,
     errors: &mut Output<'_, E>,
 ) {
     match fault {
-        TallyFault::Log(fault) => {
+        LogFault::Write => tell_of(PROGRAM, ": out of memory\n", errors),
+        _ => {
             tell_seen(PROGRAM, name, bad, seen, errors);
             tell_log_fault(PROGRAM, name, fault, seen.lines, errors);
         }
-        TallyFault::OutOfMemory => tell_of(PROGRAM, ": out of memory\n", errors),
     }
 }
 

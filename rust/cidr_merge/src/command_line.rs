@@ -4,6 +4,7 @@
 
 use fosibegan_core::plain_std::vec::Vec;
 use fosibegan_core::plain_std::string::String;
+use crate::dashes::{before_dashes, behind_dashes};
 use crate::exports::Export;
 use crate::faults::{fault_of, from_count, no_task_fault};
 use crate::named_lists::{add_file, lists_of};
@@ -11,14 +12,13 @@ use crate::rows::{COUNT, FORMAT, FROM, JSON, MOST, PREFIX, RANGES, SKIP_BAD, STR
 use crate::set_names::{SetNames, names_of};
 use crate::shapes::Shape;
 use crate::tasks::{Task, task_called};
-use crate::words::{before_dashes, behind_dashes};
 use cidr_programs::options::faults::{Fault, Subject, about};
 use cidr_programs::options::given::{is_given, value_of};
 use cidr_programs::options::items::Item;
 use cidr_programs::options::reading::items_of;
 use cidr_programs::options::table::Table;
 use cidr_programs::options::values::{length_in, number_in};
-use cidr_programs::program::words::count_of;
+use cidr_programs::program::command_line::count_of;
 use fosibegan_core::plain_std::alloc::{AllocError, Global};
 
 /// What is done with the lists.

@@ -16,6 +16,9 @@ pub(crate) struct Counts {
     addresses: AddressCount,
 }
 
+/// Both numbers as a text.
+pub(crate) type CountText = ArrayString<80>;
+
 impl Counts {
     /// Counts these blocks and their addresses.
     pub(crate) fn of<N: AddressSpace>(mut blocks: Sweep<'_, N>) -> Counts {
@@ -32,7 +35,7 @@ impl Counts {
     }
 
     /// Returns both numbers, with a space between them.
-    pub(crate) fn text(self) -> ArrayString<80> {
+    pub(crate) fn text(self) -> CountText {
         let mut text = ArrayString::new();
         push_number(&mut text, self.blocks);
         text.push(' ');
@@ -42,8 +45,7 @@ impl Counts {
 }
 
 // Appends a count of addresses to a text.
-#[inline]
-fn push_count(text: &mut ArrayString<80>, count: AddressCount) {
+fn push_count(text: &mut CountText, count: AddressCount) {
     match count {
         AddressCount::Number(number) => push_number(text, number),
         AddressCount::AllOfIpv6 => text.push_str("340282366920938463463374607431768211456"),

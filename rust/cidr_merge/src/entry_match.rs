@@ -7,7 +7,7 @@ use cidr_programs::lists::{Entry, LINE_MAX, LineFault, read_entry};
 
 /// Returns the entry of a line, if it has one, or why the line is refused.
 pub(crate) fn entry_of(line: &[u8]) -> Result<Option<Entry>, LineFault> {
-    // Does nothing. The proof needs the law: the result of reading a line can be computed.
+    // These do nothing. The proof needs the laws: the result of reading a text can be computed.
     if line.len() > LINE_MAX {
         return Err(LineFault::Length);
     }

@@ -15,7 +15,7 @@ use cidr_programs::options::given::is_given;
 use cidr_programs::options::items::{Item, Text};
 use cidr_programs::options::reading::is_plain;
 use cidr_programs::options::table::{Kind, Row, Table, kind_at, named};
-use cidr_programs::program::words::count_of;
+use cidr_programs::program::command_line::count_of;
 
 /// The fault of a word, with the problem to report.
 pub(crate) fn at<'a>(word: &'a str, problem: &'a str) -> Fault<'a> {

@@ -20,9 +20,9 @@ use cidr_programs::lines::output::Output;
 use cidr_programs::lists::OpenLists;
 use cidr_programs::options::refusing::refuse;
 use cidr_programs::options::table::Row;
+use cidr_programs::program::command_line::text_at;
 use cidr_programs::program::ending::{FAILED, end};
 use cidr_programs::program::memory::refuse_memory;
-use cidr_programs::program::words::text_at;
 use fosibegan_core::plain_std::alloc::{AllocError, Global};
 use fosibegan_core::plain_std::io::Write;
 

@@ -25,7 +25,11 @@ pub(crate) fn tell_wrong<W: Write>(line: &Line<'_>, fault: LineFault, output: &m
 }
 
 /// Reports why a line is refused, as `tell_wrong` prints it, in the name of the program.
-pub(crate) fn tell_refused<E: Write>(line: &Line<'_>, fault: LineFault, errors: &mut Output<'_, E>) {
+pub(crate) fn tell_refused<E: Write>(
+    line: &Line<'_>,
+    fault: LineFault,
+    errors: &mut Output<'_, E>,
+) {
     tell_of(PROGRAM, ": ", errors);
     tell_wrong(line, fault, errors);
 }

@@ -14,6 +14,7 @@ mod command_line;
 mod context;
 mod counts;
 mod cutting;
+mod dashes;
 mod elements;
 mod entry_match;
 mod exporting;
@@ -47,7 +48,6 @@ mod sweep;
 mod tasks;
 mod text_lines;
 mod texts;
-mod words;
 
 use crate::help::{PROGRAM, USAGE};
 use crate::run::run;

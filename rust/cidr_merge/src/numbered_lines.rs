@@ -6,7 +6,7 @@ use fosibegan_core::plain_std::vec::Vec;
 use fosibegan_core::plain_std::string::String;
 use crate::text_lines::TextLines;
 use crate::texts::WholeLists;
-use cidr_programs::program::words::text_at;
+use cidr_programs::program::command_line::text_at;
 
 /// A line of a list.
 #[derive(Clone, Copy, Debug)]

@@ -6,8 +6,8 @@ use fosibegan_core::plain_std::string::String;
 use crate::findings::{either, tell_place};
 use crate::placed::{Key, Placed};
 use cidr_programs::lines::output::Output;
+use cidr_programs::program::command_line::text_at;
 use cidr_programs::program::messages::tell;
-use cidr_programs::program::words::text_at;
 use fosibegan_core::plain_std::io::Write;
 
 /// Prints each pair of overlapping entries, given entries in order, and returns whether there is

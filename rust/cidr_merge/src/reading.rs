@@ -33,8 +33,18 @@ pub(crate) fn read_side<L: OpenLists>(
 ) -> (Sets, Refusals, Result<(), ReadFault>) {
     let mut reader = ListReader::new(context.alloc, refusals);
     let end = read_all(context, shape, names, first, &mut reader);
-    let (v4, v6, refusals) = reader.into_sets();
+    let (v4, v6, refusals) = into_sets(reader);
     (Sets { v4, v6 }, refusals, end)
+}
+
+// Returns the sets of the addresses that were read, and the refused lines.
+fn into_sets(reader: ListReader) -> (AddressSet<Ipv4Network>, AddressSet<Ipv6Network>, Refusals) {
+    let (v4, v6, refusals) = reader.into_networks();
+    (
+        AddressSet::from_networks(v4),
+        AddressSet::from_networks(v6),
+        refusals,
+    )
 }
 
 // Reads the lists of these names, in order.

@@ -78,7 +78,8 @@ fn address_of(text: &[u8]) -> Option<IpAddr> {
     }
 }
 
-/// Reports the lines of lists that have something other than an address.
+/// Reports the lines of lists that have something other than an address, and returns whether there
+/// are any.
 pub(crate) fn tell_others<E: Write>(lists: &WholeLists<'_>, errors: &mut Output<'_, E>) -> bool {
     let mut told = false;
     let mut lines = NumberedLines::of(lists);
@@ -89,7 +90,7 @@ pub(crate) fn tell_others<E: Write>(lists: &WholeLists<'_>, errors: &mut Output<
     told
 }
 
-// Reports a line that has something other than an address.
+// Reports a line if it has something other than an address, and returns whether it has.
 fn tell_other<E: Write>(line: &Line<'_>, errors: &mut Output<'_, E>) -> bool {
     let text = trim::<Blank>(line.text);
     if !is_other(text) {

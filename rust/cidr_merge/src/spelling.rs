@@ -6,7 +6,7 @@ use fosibegan_core::plain_std::vec::Vec;
 use fosibegan_core::plain_std::string::String;
 use crate::named_lists::add_name;
 use cidr_programs::options::values::number_in;
-use cidr_programs::program::words::is;
+use cidr_programs::program::command_line::is;
 use fosibegan_core::plain_std::alloc::{AllocError, Global};
 
 /// Whether the words begin with `reduce` and a number, which stands for `--most` and the number.

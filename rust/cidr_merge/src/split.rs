@@ -52,7 +52,13 @@ fn print_split<W: Write, E: Write>(
         return FAILED;
     }
     let written = write_split(names, request.length, sets, output);
-    end(PROGRAM, written, if skips { 3 } else { 0 }, errors)
+    let status = status(skips);
+    end(PROGRAM, written, status, errors)
+}
+
+// Returns the exit status after the pieces were written.
+fn status(skips: bool) -> u8 {
+    if skips { 3 } else { 0 }
 }
 
 // Writes the pieces of the networks of both families.

@@ -6,6 +6,7 @@
 
 pub mod areas;
 pub mod finding;
+pub mod help;
 pub mod log_stats;
 pub mod rows;
 pub mod telling;

@@ -7,7 +7,6 @@ pub mod asking;
 pub mod faults;
 pub mod given;
 pub mod items;
-pub mod numbers;
 pub mod operands;
 pub mod reading;
 pub mod refusing;

@@ -4,6 +4,7 @@
 //! logs, and what they report on standard error.
 
 pub mod arguments;
+pub mod command_line;
 pub mod ending;
 pub mod escapes;
 pub mod log_fault;
@@ -18,4 +19,3 @@ pub mod start;
 pub mod system;
 pub mod telling;
 pub mod usage;
-pub mod words;

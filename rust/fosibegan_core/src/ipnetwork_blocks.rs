@@ -30,6 +30,7 @@ pub use hosts::{Ipv4HostIterator, ipv4_hosts, ipv6_hosts};
 pub use numbered_subnet::subnet_at;
 pub use preceding_block::preceding;
 pub use range_blocks::{RangeBlocks, range_to_blocks};
+pub(crate) use range_blocks::widest_block;
 pub use spanning_block::spanning;
 pub use subnet_iterator::{SubnetIterator, subnets};
 pub use supernets::{block, sibling, supernet};

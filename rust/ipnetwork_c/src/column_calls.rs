@@ -107,48 +107,9 @@ const _: () = {
     }
 };
 
-/// For each address, finds the index of the longest block of a table that has it: index i and fault
-/// i are what `ipnetwork_v4_table_find` leaves and returns for address i. An address without a
-/// block does not stop the call. The rest of `indexes` and `faults` is unchanged. Returns
-/// `SHORT_BUFFER` if there are fewer indexes or faults than addresses.
-#[inline]
-pub fn ipnetwork_v4_table_find_column(
-    blocks: &[Ipv4InC],
-    addresses: &[[u8; 4]],
-    indexes: &mut [usize],
-    faults: &mut [u8],
-) -> u32 {
-    table_find_each::<Ipv4Network, Ipv4InC>(blocks, &[], addresses, indexes, faults)
-}
-
-const _: () = {
-    #[export_name = "ipnetwork_v4_table_find_column"]
-    unsafe extern "C" fn called(blocks: *const Ipv4InC, blocks_length: usize, addresses: *const [u8; 4], addresses_length: usize, indexes: *mut usize, indexes_length: usize, faults: *mut u8, faults_length: usize) -> u32 {
-        unsafe { ipnetwork_v4_table_find_column(crate::lent::lent(blocks, blocks_length), crate::lent::lent(addresses, addresses_length), crate::lent::lent_mut(indexes, indexes_length), crate::lent::lent_mut(faults, faults_length)) }
-    }
-};
-
-/// The same for IPv6, by `ipnetwork_v6_table_find`.
-#[inline]
-pub fn ipnetwork_v6_table_find_column(
-    blocks: &[Ipv6InC],
-    addresses: &[[u8; 16]],
-    indexes: &mut [usize],
-    faults: &mut [u8],
-) -> u32 {
-    table_find_each::<Ipv6Network, Ipv6InC>(blocks, &[], addresses, indexes, faults)
-}
-
-const _: () = {
-    #[export_name = "ipnetwork_v6_table_find_column"]
-    unsafe extern "C" fn called(blocks: *const Ipv6InC, blocks_length: usize, addresses: *const [u8; 16], addresses_length: usize, indexes: *mut usize, indexes_length: usize, faults: *mut u8, faults_length: usize) -> u32 {
-        unsafe { ipnetwork_v6_table_find_column(crate::lent::lent(blocks, blocks_length), crate::lent::lent(addresses, addresses_length), crate::lent::lent_mut(indexes, indexes_length), crate::lent::lent_mut(faults, faults_length)) }
-    }
-};
-
 /// For each address, finds the place of the longest block of a table that has it, by an index of
-/// the table: place i and fault i are what `ipnetwork_v4_index_find` leaves and returns for address
-/// i. An address without a block does not stop the call. The rest of `places` and `faults` is
+/// the table, or by none: place i and fault i are what `ipnetwork_v4_index_find` leaves and returns
+/// for address i. An address without a block does not stop the call. The rest of `places` and `faults` is
 /// unchanged. Returns `SHORT_BUFFER` if there are fewer places or faults than addresses.
 #[inline]
 pub fn ipnetwork_v4_index_find_column(

@@ -28,7 +28,6 @@ mod ipv4_in_c;
 mod ipv6_in_c;
 mod list_calls;
 mod listed;
-mod lists;
 mod making_calls;
 mod network_calls;
 mod numbered;

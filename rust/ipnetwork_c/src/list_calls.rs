@@ -6,84 +6,15 @@
 use crate::block_calls::range;
 use crate::set_operations::{Operation, operate};
 use crate::structs::{Ipv4InC, Ipv6InC, PlaceInC, address_of};
-use crate::{lists, ranges, sets, tables};
+use crate::{ranges, sets, tables};
 use fosibegan_core::ipnetwork::{Ipv4Addr, Ipv4Network, Ipv6Network};
-
-/// Writes to `answer` 1 if an address is in one of these networks, else 0, also if there are no
-/// networks. Returns `PREFIX` if a prefix length is greater than 32.
-#[inline]
-pub fn ipnetwork_v4_list_contains(
-    networks: &[Ipv4InC],
-    address: &[u8; 4],
-    answer: &mut u8,
-) -> u32 {
-    lists::contains::<Ipv4Network, Ipv4InC>(networks, Ipv4Addr::from(*address), answer)
-}
-
-const _: () = {
-    #[export_name = "ipnetwork_v4_list_contains"]
-    unsafe extern "C" fn called(networks: *const Ipv4InC, networks_length: usize, address: &[u8; 4], answer: &mut u8) -> u32 {
-        unsafe { ipnetwork_v4_list_contains(crate::lent::lent(networks, networks_length), address, answer) }
-    }
-};
-
-/// The same for IPv6, for prefix lengths up to 128.
-#[inline]
-pub fn ipnetwork_v6_list_contains(
-    networks: &[Ipv6InC],
-    address: &[u8; 16],
-    answer: &mut u8,
-) -> u32 {
-    lists::contains::<Ipv6Network, Ipv6InC>(networks, address_of(address), answer)
-}
-
-const _: () = {
-    #[export_name = "ipnetwork_v6_list_contains"]
-    unsafe extern "C" fn called(networks: *const Ipv6InC, networks_length: usize, address: &[u8; 16], answer: &mut u8) -> u32 {
-        unsafe { ipnetwork_v6_list_contains(crate::lent::lent(networks, networks_length), address, answer) }
-    }
-};
 
 /// Writes to `answer` 1 if an address is in the set of a list, else 0, for the list of a set, as
 /// `ipnetwork_v4_aggregate` leaves it. For any other list, 1 is right too, but 0 says nothing. If
 /// the structs ascend, the search ends at the last struct whose own address is at or before this
 /// one. Returns `PREFIX` exactly if the prefix length of the struct at which the search ends is
-/// greater than 32, which never occurs in the list of a set.
-#[inline]
-pub fn ipnetwork_v4_set_contains(
-    blocks: &[Ipv4InC],
-    address: &[u8; 4],
-    answer: &mut u8,
-) -> u32 {
-    sets::contains::<Ipv4Network, Ipv4InC>(blocks, &[], address, answer)
-}
-
-const _: () = {
-    #[export_name = "ipnetwork_v4_set_contains"]
-    unsafe extern "C" fn called(blocks: *const Ipv4InC, blocks_length: usize, address: &[u8; 4], answer: &mut u8) -> u32 {
-        unsafe { ipnetwork_v4_set_contains(crate::lent::lent(blocks, blocks_length), address, answer) }
-    }
-};
-
-/// The same for IPv6, for prefix lengths up to 128.
-#[inline]
-pub fn ipnetwork_v6_set_contains(
-    blocks: &[Ipv6InC],
-    address: &[u8; 16],
-    answer: &mut u8,
-) -> u32 {
-    sets::contains::<Ipv6Network, Ipv6InC>(blocks, &[], address, answer)
-}
-
-const _: () = {
-    #[export_name = "ipnetwork_v6_set_contains"]
-    unsafe extern "C" fn called(blocks: *const Ipv6InC, blocks_length: usize, address: &[u8; 16], answer: &mut u8) -> u32 {
-        unsafe { ipnetwork_v6_set_contains(crate::lent::lent(blocks, blocks_length), address, answer) }
-    }
-};
-
-/// Writes and returns what `ipnetwork_v4_set_contains` does, by an index of the blocks, as
-/// `ipnetwork_v4_index_make` makes it. The index only says where the search begins: an index of
+/// greater than 32, which never occurs in the list of a set. `index` is the index of the blocks, as
+/// `ipnetwork_v4_index_make` makes it, or empty. It only says where the search begins: an index of
 /// another list makes the search slower, but the answer is the same if the blocks ascend.
 #[inline(always)]
 pub fn ipnetwork_v4_index_contains(
@@ -102,7 +33,7 @@ const _: () = {
     }
 };
 
-/// The same for IPv6, as `ipnetwork_v6_set_contains`.
+/// The same for IPv6, for prefix lengths up to 128.
 #[inline(always)]
 pub fn ipnetwork_v6_index_contains(
     blocks: &[Ipv6InC],
@@ -120,48 +51,14 @@ const _: () = {
     }
 };
 
-/// Writes to `index` the index of the longest block of a table that has the address. A table is
+/// Writes to `place` the place of the longest block of a table that has the address. A table is
 /// blocks without host bits in ascending order by `ipnetwork_v4_compare`, some of which may contain
 /// others. Returns `NO_MEMBER` if no block has the address. For any other list, the block at the
-/// index has the address too, but there may be a longer one, and `NO_MEMBER` says nothing. Returns
+/// place has the address too, but there may be a longer one, and `NO_MEMBER` says nothing. Returns
 /// `PREFIX` at the first struct that the search reaches whose prefix length is greater than 32,
-/// which never occurs in a table.
-#[inline]
-pub fn ipnetwork_v4_table_find(
-    blocks: &[Ipv4InC],
-    address: &[u8; 4],
-    index: &mut usize,
-) -> u32 {
-    tables::find::<Ipv4Network, Ipv4InC>(blocks, &[], Ipv4Addr::from(*address), index)
-}
-
-const _: () = {
-    #[export_name = "ipnetwork_v4_table_find"]
-    unsafe extern "C" fn called(blocks: *const Ipv4InC, blocks_length: usize, address: &[u8; 4], index: &mut usize) -> u32 {
-        unsafe { ipnetwork_v4_table_find(crate::lent::lent(blocks, blocks_length), address, index) }
-    }
-};
-
-/// The same for IPv6, for prefix lengths up to 128.
-#[inline]
-pub fn ipnetwork_v6_table_find(
-    blocks: &[Ipv6InC],
-    address: &[u8; 16],
-    index: &mut usize,
-) -> u32 {
-    tables::find::<Ipv6Network, Ipv6InC>(blocks, &[], address_of(address), index)
-}
-
-const _: () = {
-    #[export_name = "ipnetwork_v6_table_find"]
-    unsafe extern "C" fn called(blocks: *const Ipv6InC, blocks_length: usize, address: &[u8; 16], index: &mut usize) -> u32 {
-        unsafe { ipnetwork_v6_table_find(crate::lent::lent(blocks, blocks_length), address, index) }
-    }
-};
-
-/// Writes to `place` what `ipnetwork_v4_table_find` finds, with the same faults, by an index of the
-/// blocks, as `ipnetwork_v4_table_index_make` makes it. Whatever the index holds, the result is the
-/// same if the blocks ascend.
+/// which never occurs in a table. `index` is the index of the blocks, as
+/// `ipnetwork_v4_table_index_make` makes it, or empty. Whatever it holds, the result is the same if
+/// the blocks ascend.
 #[inline(always)]
 pub fn ipnetwork_v4_index_find(
     blocks: &[Ipv4InC],
@@ -179,7 +76,7 @@ const _: () = {
     }
 };
 
-/// The same for IPv6, as `ipnetwork_v6_table_find`.
+/// The same for IPv6, for prefix lengths up to 128.
 #[inline(always)]
 pub fn ipnetwork_v6_index_find(
     blocks: &[Ipv6InC],
@@ -198,9 +95,9 @@ const _: () = {
 };
 
 /// Writes to `place` the place of the last range that begins at or before an address, by an index
-/// of the ranges, as `ipnetwork_v4_table_index_make` makes it, or by none. For the ranges and places of a
-/// table, as `ipnetwork_v4_ranges_make` makes them, it is the place that `ipnetwork_v4_table_find`
-/// finds in the table. Returns `NO_MEMBER` if there is no such range, or if its place is missing or
+/// of the ranges, as `ipnetwork_v4_table_index_make` makes it, or by none. For the ranges and places
+/// of a table, as `ipnetwork_v4_ranges_make` makes them, it is the place that
+/// `ipnetwork_v4_index_find` finds in the table. Returns `NO_MEMBER` if there is no such range, or if its place is missing or
 /// `NO_PLACE`. Whatever the index holds, the result is the same if the ranges ascend.
 #[inline(always)]
 pub fn ipnetwork_v4_ranges_find(

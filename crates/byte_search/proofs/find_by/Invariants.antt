@@ -1,5 +1,4 @@
-use Rattle.std.proofs.Common.{◌-◌, ◌≤◌, length}
-use Rattle.byte_search.specs.Bytes.{IsAbsent}
+use Rattle.byte_search.proofs.Known.{◌-◌, ◌≤◌, length, IsAbsent}
 use Rattle.byte_search.proofs.find_by.Given as goal
 
 abbrev pub invariant-loop-at : goal.invariant-loop-at

@@ -1,4 +1,4 @@
-use Rattle.byte_search.specs.Bytes.{IsAbsent}
+use Rattle.byte_search.proofs.Known.{IsAbsent}
 use Rattle.byte_search.proofs.find_one_by_one.Given as goal
 
 abbrev pub invariant-loop-at : goal.invariant-loop-at

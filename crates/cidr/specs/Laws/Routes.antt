@@ -8,7 +8,7 @@ use Rattle.ipnetwork.specs.IpNetworks.{IsIpNetwork, IpMember, IpSubnet, address_
 use Rattle.ipnetwork.specs.IpNetworkText.{NamesIpNetwork, ip_network_text}
 use Rattle.ipnetwork.specs.declared.ip_network.IpNetwork.{IpNetwork}
 use Rattle.cidr.specs.Laws.Commands.{HasWords}
-use Rattle.lines.specs.Parts.{IsBeginning}
+use Rattle.lines.specs.Beginnings.{IsBeginning}
 use Rattle.cidr.specs.Output.{MayGet, MayAnswer, reply, IsOutput}
 use Rattle.cidr.specs.Requests.{Add, Drop, Find}
 use Rattle.cidr.specs.Routes.{Routes, no_routes, number_at}

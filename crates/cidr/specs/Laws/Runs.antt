@@ -1,6 +1,6 @@
 -- The laws of runs: what a caller may conclude from how a run ended.
 use Rattle.std.specs.Prelude.{◌≡◌, ℕ, ◌<◌, ◌≤◌, List, ◌++◌, length, take, Option, Some, Ok, Err}
-use Rattle.lines.specs.Parts.{complete_part}
+use Rattle.lines.specs.Beginnings.{complete_part}
 use Rattle.lines.specs.declared.fault.RunFault.TheVariants.{Read, Write, InputTooLong}
 use Rattle.cidr.specs.Output.{IsOutput}
 use Rattle.cidr.specs.Run.{Ran, BeginsOutput}

@@ -1,32 +1,24 @@
 -- How the lines of logs are counted, step by step.
-use Rattle.std.specs.Prelude.{◌≡◌, ℕ, Bool, true, false, List, [], ◌++◌, length, codes, Option, None, Result, Ok, Err}
+use Rattle.std.specs.Prelude.{◌≡◌, ◌⊎◌, ℕ, ◌-◌, ◌^◌, ◌<◌, Bool, true, false, List, [], ◌∷◌, ◌++◌, length, Option}
+use Rattle.std.specs.Prelude.{◌||◌, None, Some, Result, OnOk}
 use Rattle.ipnetwork.specs.declared.ip_network.IpNetwork.{IpNetwork}
 use Rattle.lines.specs.Outputs.{Written}
 use Rattle.lists.specs.KnownLists.{KnownLists}
-use Rattle.program.specs.Messages.{Reports}
-use Rattle.cidr_join.specs.Addressed.{is_addressed, seen_of}
-use Rattle.cidr_join.specs.Joins.{Finds, is_refused, network_in}
-use Rattle.cidr_join.specs.Logs.{EndsRunBy}
-use Rattle.program.specs.LogFaults as logs
-use Rattle.program.specs.LogFaults.{log_fault_text}
-use Rattle.program.specs.LogLines.{LogLine}
-use Rattle.program.specs.LogReadings.{StopsReading}
-use Rattle.log_programs.specs.LogStats.{with_line}
-use Rattle.log_programs.specs.Seen.{seen_text}
-use Rattle.log_programs.specs.WithoutAddress.{is_stopped}
+use Rattle.log_programs.specs.InTurn.{GoesOn}
+use Rattle.log_programs.specs.LogReads.{ReadsLog, ReadsSoFar}
+use Rattle.log_programs.specs.LogStats.{nothing}
+use Rattle.log_programs.specs.declared.log_stats.LogStats.{LogStats}
+use Rattle.program.specs.LogReaders.{OpenLog}
+use Rattle.program.specs.declared.log_fault.LogFault.{LogFault}
+use Rattle.program.specs.declared.log_fault.LogFault.TheVariants as faults
+use Rattle.cidr_join.specs.Joins.{Finds, GivesLine, counted_for, counted_in, never}
+use Rattle.cidr_join.specs.Logs.{GivesOne}
+use Rattle.cidr_join.specs.Runs.{LacksMemory, MarksLogs}
 use Rattle.cidr_join.specs.Tallies.{count_of}
-use Rattle.cidr_join.specs.TallyRuns.{Marks, StopsTally, counted_for}
 use Rattle.cidr_join.specs.Private.Counting.{Counted, repeated}
-use Rattle.cidr_join.specs.Private.Runs.{ReadsNames}
 use Rattle.cidr_join.specs.declared.counts.Counts.{Counts}
 use Rattle.cidr_join.specs.declared.found.Found.{Found}
 use Rattle.cidr_join.specs.declared.join.Join.{Join}
-use Rattle.program.specs.declared.log_fault.LogFault.{LogFault}
-use Rattle.program.specs.declared.log_fault.LogFault.TheVariants as faults
-use Rattle.log_programs.specs.declared.log_stats.LogStats.{LogStats}
-use Rattle.log_programs.specs.declared.without_address.WithoutAddress.{WithoutAddress}
-use Rattle.cidr_join.specs.declared.tally_log.TallyFault.{TallyFault}
-use Rattle.cidr_join.specs.declared.tally_log.TallyFault.TheVariants as tallies
 
 -- these texts were counted, some by their bytes and some by number: each is among them as often as these two counts say
 -- together
@@ -46,59 +38,64 @@ module _ (founds : List Found) where
   CountsAsked join asked old new = (found : Found) × Finds join asked found
       × CountsAll (counted_for join asked found) old new
 
-  -- what is found for the line was counted, and so was the line
+  -- what the line gives was counted
   abbrev pub CountsLine : Join → List ℕ → Counts → Counts → LogStats → LogStats → Type 0
-  CountsLine join line old new was is = CountsAsked join (network_in join line) old new
-      × (is_refused join.bad (network_in join line) ≡ false) × (is ≡ with_line was (is_addressed join line))
+  CountsLine join line old new was is = (marks : List (List ℕ)) × GivesLine counted_in join was line [] marks (Some is)
+      × CountsAll marks old new
 
-  -- what is found for these first lines of a log was counted, and so were the lines
-  abbrev pub CountsLines : Join → Counts → Counts → LogStats → List LogLine → Type 0
-  CountsLines join old new is lines = (marks : List (List ℕ)) × Marks join lines marks × CountsAll marks old new
-      × (is ≡ seen_of join lines)
+  -- what the lines that were handed out give was counted
+  pub record CountsSoFar (join : Join) (log : OpenLog) (remained remains : Option (List ℕ)) (old new : Counts)
+      (seen : LogStats) : Type 0 where
+    pub marks : List (List ℕ)
+    pub counts : CountsAll marks old new
+    pub reads : ReadsSoFar never (GivesLine counted_in join) nothing log remained remains marks seen
 
-  -- what is found for the lines of the logs with these names was counted, and the reports about them were written
-  abbrev pub CountsNames : {E : Type 0} → Join → KnownLists → List (List ℕ) → Bool → Counts → Counts → Written E
-      → Written E → Type 0
-  CountsNames join known names missed old new errors told =
-      ReadsNames (Marks join) (λ marks. CountsAll marks old new) join known names missed errors told
+  -- what the lines of a log give was counted, unless a fault stopped that
+  pub record CountsLog {T : Type 0} (result : Result T LogFault) (join : Join) (remained : Option (List ℕ))
+      (read_failed : Bool) (old new : Counts) (seen : LogStats) : Type 0 where
+    pub marks : List (List ℕ)
+    pub counts : OnOk result (CountsAll marks old new)
+    pub reads : ReadsLog never (GivesLine counted_in join) nothing result remained read_failed marks seen
 
--- this fault stops the counting at the line: it has no address and ends the run, or memory ran out
-abbrev pub LineNotCounted : Join → List ℕ → Counts → Counts → LogStats → LogStats → TallyFault → Type 0
-LineNotCounted join line old new was is (tallies.Log faults.Read) = ⊥
-LineNotCounted join line old new was is (tallies.Log faults.Write) = ⊥
-LineNotCounted join line old new was is (tallies.Log faults.Address) =
-    (network_in join line ≡ None) × (is_stopped join.bad ≡ true) × (new ≡ old) × (is ≡ was)
-LineNotCounted join line old new was is (tallies.Log faults.Length) = ⊥
-LineNotCounted join line old new was is (tallies.Log faults.Endless) = ⊥
-LineNotCounted join line old new was is tallies.OutOfMemory = Unit {0}
+  -- what the log of this name gives was counted, and whether it or a line of it is missed
+  abbrev pub CountsName : Join → KnownLists → List ℕ → Bool → Counts → Counts → Type 0
+  CountsName join known name more old new = (marks : List (List ℕ)) × CountsAll marks old new
+      × ((cut missed : Bool) → GivesOne counted_in join known cut missed name marks (Some (missed || more)))
 
--- the fault of a log as a fault of counting: output waits only in memory, so a write fails only if memory runs out
-abbrev pub tally_fault : LogFault → TallyFault
-tally_fault faults.Read = tallies.Log faults.Read
-tally_fault faults.Write = tallies.OutOfMemory
-tally_fault faults.Address = tallies.Log faults.Address
-tally_fault faults.Length = tallies.Log faults.Length
-tally_fault faults.Endless = tallies.Log faults.Endless
+  -- what the logs before `names` give was counted, whatever comes
+  pub record CountsNames (join : Join) (known : KnownLists) (all names : List (List ℕ)) (missed : Bool)
+      (old new : Counts) : Type 0 where
+    pub marks : List (List ℕ)
+    pub counts : CountsAll marks old new
+    pub goes_on : (cut : Bool) → GoesOn never (GivesOne counted_in join known cut) false false all marks missed names
 
--- what holds if this fault stops the counting of a log; memory may run out at any line
-abbrev pub StopsCounting : Join → (List LogLine → Type 0) → Option (List ℕ) → Option (List ℕ) → Bool → TallyFault
-    → Type 0
-StopsCounting join Done remained remains failed (tallies.Log fault) =
-    StopsReading (EndsRunBy join) Done (λ lines. ⊥) remained remains failed false fault
-StopsCounting join Done remained remains failed tallies.OutOfMemory = Unit {0}
+-- the fault stops the counting at the line: it ends the run, or memory, the only thing written to, ran out
+abbrev pub LineNotCounted : Join → List ℕ → LogStats → LogFault → Type 0
+LineNotCounted join line was faults.Read = ⊥
+LineNotCounted join line was faults.Write = Unit {0}
+LineNotCounted join line was faults.Address = GivesLine counted_in join was line [] [] None
+LineNotCounted join line was faults.Length = ⊥
+LineNotCounted join line was faults.Endless = ⊥
 
--- whether a failed read ended the counting
-abbrev pub ended_by_read : {T : Type 0} → Result T TallyFault → Bool
-ended_by_read (Ok done) = false
-ended_by_read {T} (Err (tallies.Log fault)) = logs.ended_by_read {T = T} (Err fault)
-ended_by_read (Err tallies.OutOfMemory) = false
+-- a read of the log of this name failed, or it has more bytes than 64 bits count
+abbrev pub FailsReading : KnownLists → List ℕ → Type 0
+FailsReading known name = known.may_fail name
+    ⊎ ((log : List ℕ) → known.bytes_of name ≡ Some log → 2 ^ 64 - 1 < length log)
 
--- what is reported if this fault stops the counting of a log whose lines so far have these counts
-abbrev pub tally_fault_text : WithoutAddress → List ℕ → LogStats → TallyFault → List ℕ
-tally_fault_text bad name seen (tallies.Log fault) = seen_text (codes "cidr_join") name bad seen
-    ++ log_fault_text (codes "cidr_join") name seen.lines fault
-tally_fault_text bad name seen tallies.OutOfMemory = codes "cidr_join: out of memory\n"
+-- the log of this name ends the run, or memory ran out
+abbrev pub StopsCounting : {E : Type 0} → Join → KnownLists → List ℕ → Written E → Type 0
+StopsCounting join known name errors = LacksMemory errors
+    ⊎ ((cut : Bool) × (marks : List (List ℕ)) ×
+    ((missed : Bool) → GivesOne counted_in join known cut missed name marks None)
+    × (cut ≡ true → FailsReading known name))
 
--- the reason why nothing is counted was reported
-abbrev pub TellsStop : {E : Type 0} → Join → KnownLists → List (List ℕ) → Written E → Written E → Type 0
-TellsStop join known names old new = (text : List ℕ) × StopsTally join known names text × Reports old new text
+-- one of the logs with these names ends the run, or memory ran out
+abbrev pub StopsTally : {E : Type 0} → Join → KnownLists → List (List ℕ) → Written E → Type 0
+StopsTally join known names errors = LacksMemory errors
+    ⊎ ((cut : Bool) × (marks : List (List ℕ)) × MarksLogs join known cut names marks None
+    × (cut ≡ true → (before : List (List ℕ)) × (name : List ℕ) × (behind : List (List ℕ))
+    × (names ≡ before ++ name ∷ behind) × FailsReading known name))
+
+-- if the fault is that memory ran out, that is the last thing reported
+abbrev pub TellsUncounted : {E : Type 0} → LogFault → Written E → Type 0
+TellsUncounted fault errors = fault ≡ faults.Write → LacksMemory errors

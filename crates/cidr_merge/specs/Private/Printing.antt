@@ -1,16 +1,14 @@
 -- The output of printing functions.
-use Rattle.std.specs.Prelude.{◌≡◌, ◌||◌, ℕ, Bool, List}
-use Rattle.ipnetwork_family.specs.Network.{Network}
-use Rattle.lines.specs.Outputs.{Written, Prints}
-use Rattle.cidr_merge.specs.Exports.{is_any}
+use Rattle.std.specs.Prelude.{◌≡◌, ℕ, List, Result, OnErr, OnOk, true}
+use Rattle.lines.specs.Outputs.{FailsIn, Written, Writes}
+use Rattle.program.specs.Putting.{PutsOrFails}
 
--- a text with this property was printed
-abbrev pub PrintsSome : {W : Type 0} → (List ℕ → Type 0) → Written W → Written W → Type 0
-PrintsSome Is old new = (text : List ℕ) × Is text × Prints old new text
+-- a text with this property was put, or the writer failed and took a beginning of it
+abbrev pub PutsSome : {W T E : Type 0} → Result T E → (List ℕ → Type 0) → Written W → Written W → Type 0
+PutsSome result Is old new = (text : List ℕ) × Is text × PutsOrFails result old new text
 
--- the blocks of a family were printed as this text; `any` says whether blocks were printed by now, where `follows` says
--- it of the other family, which comes first
-abbrev pub PrintsBlocks : {W : Type 0} → (List Network → List ℕ) → Bool → List Network → Written W
-    → Written W → Bool → Type 0
-PrintsBlocks text follows blocks old new any =
-    Prints old new (text blocks) × (any ≡ (follows || is_any blocks))
+-- the text was written, or the writer failed and took a beginning of it
+pub record WritesOrFails {W T E : Type 0} (result : Result T E) (old new : Written W) (text : List ℕ) : Type 0 where
+  pub written : OnOk result (Writes old new text)
+  pub failed : OnErr result (new.failed ≡ true)
+  pub beginning : OnErr result (FailsIn old new text)

@@ -1,9 +1,6 @@
 -- The blocks that are still to come.
-use Rattle.std.specs.Prelude.{ℕ, Bool, true, false, List, [], ◌∷◌, Option, None, Some}
-use Rattle.ipnetwork_family.specs.Family.{Family}
+use Rattle.std.specs.Prelude.{ℕ, List, [], ◌∷◌, Option, None, Some}
 use Rattle.ipnetwork_family.specs.Network.{Network}
-use Rattle.cidr_merge.specs.Answers.{AreBlockLines, AreRangeLines}
-use Rattle.cidr_merge.specs.SetNames.{Names}
 use Rattle.cidr_merge.specs.declared.command_line.Operation.{Operation}
 use Rattle.cidr_merge.specs.declared.command_line.Operation.TheVariants as operations
 use Rattle.cidr_merge.specs.declared.sweep.Sweep.{Sweep}
@@ -29,10 +26,3 @@ left_of_second operations.Union parts = []
 left_of_second operations.Common parts = []
 left_of_second operations.Minus parts = []
 left_of_second operations.Differ parts = parts
-
--- the text has the result of the operation on two sets, in ranges or in blocks
-abbrev pub AreLines : {w : ℕ} → Bool → Names → Operation → Family w → List Network → List Network → List ℕ
-    → Type 0
-AreLines true names operation family first second text = AreRangeLines names operation family first second text
-AreLines false names operation family first second text =
-    AreBlockLines names operation family first second text

@@ -31,13 +31,13 @@ in_union w networks x = list_any (λ n. is_member w n x) networks
 unfoldable pub common_blocks : ℕ → List Network → List Network → List Network
 common_blocks w first second = least_blocks w (λ x. in_union w first x && in_union w second x)
 
--- whether the address is in the current block, if there is one, and not before the current piece
-unfoldable pub is_from : ℕ → Option (Network × Network) → ℕ → Bool
+-- whether the address is in the current block, if there is one, and not before the next address
+unfoldable pub is_from : ℕ → Option (Network × ℕ) → ℕ → Bool
 is_from w None x = false
-is_from w (Some p) x = is_member w p.0 x && nat_le p.1.address x
+is_from w (Some p) x = is_member w p.0 x && nat_le p.1 x
 
 -- the blocks of the addresses of the current part and of the rest that are not in the cut set
-unfoldable pub left_blocks : ℕ → Option (Network × Network) → List Network → List Network → List Network
+unfoldable pub left_blocks : ℕ → Option (Network × ℕ) → List Network → List Network → List Network
 left_blocks w at_hand rest cut = least_blocks w
     (λ x. (is_from w at_hand x || in_union w rest x) && not (in_union w cut x))
 

@@ -15,7 +15,7 @@ pub record IsLastUpTo (blocks : List Network) (x : ℕ) (last : Network) : Type 
   pub others : (b : Network) → Contains blocks b → b.address ≤ x → b.address ≤ last.address
 
 -- the blocks before the index `from` begin at or before the address x, and those from the index `to` on begin after it
-pub record IsSplit (blocks : List Network) (x from to : ℕ) : Type 0 where
+pub record IsSplitAt (blocks : List Network) (x from to : ℕ) : Type 0 where
   pub ordered : from ≤ to
   pub within : to ≤ length blocks
   pub below : (k : ℕ) (d : Network) → k < from → (get_or blocks k d).address ≤ x

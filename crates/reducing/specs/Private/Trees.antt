@@ -5,7 +5,7 @@ use Rattle.ipnetwork_family.specs.Network.{Network}
 use Rattle.reducing.specs.declared.tree.End.{End}
 use Rattle.reducing.specs.declared.tree.End.TheVariants.{First, Last}
 use Rattle.reducing.specs.declared.tree.Node.{Node}
-use Rattle.reducing.specs.Private.Parts.{IsSpan}
+use Rattle.reducing.specs.Private.ListParts.{IsSpan}
 
 -- the block, if there is one
 abbrev pub alone : {X : Type 0} → (X → Network) → Option X → List Network

@@ -2,11 +2,13 @@
 
 //! Where to look for the addresses of a line.
 
+use crate::line_addresses::place::Place;
+
 /// Where to look for the addresses of a line: in which part of it, and for which addresses there.
 ///
 /// ```
 /// # use cidr_programs::in_examples::*;
-/// let area = Area { part: Part::Word(3), pick: Pick::Whole };
+/// let area = Area { part: Part::Word(Place::Number(3)), pick: Pick::Whole };
 /// let line = b"Nov  3 10.1.1.1";
 /// assert_eq!(part_of(&area.part, line), Some(b"10.1.1.1".as_slice()));
 /// ```
@@ -22,21 +24,21 @@ pub struct Area<'a> {
 ///
 /// ```
 /// # use cidr_programs::in_examples::*;
-/// assert_eq!(part_of(&Part::Word(2), b"a 10.1.1.1"), Some(b"10.1.1.1".as_slice()));
+/// assert_eq!(part_of(&Part::Word(Place::Number(2)), b"a 10.1.1.1"), Some(b"10.1.1.1".as_slice()));
 /// ```
 #[derive(Debug)]
 pub enum Part<'a> {
     /// The whole line.
     Line,
-    /// The field with this number, from 1 on. The line is split at each separator.
+    /// The field at this place. The line is split at each separator.
     Field {
-        /// The number of the field.
-        number: u32,
+        /// Which of the fields.
+        place: Place,
         /// The byte that separates fields.
         separator: u8,
     },
-    /// The word with this number, from 1 on.
-    Word(u32),
+    /// The word at this place. Words are separated by spaces and tabs.
+    Word(Place),
     /// What follows the first occurrence of a text.
     After(Text<'a>),
 }

@@ -11,7 +11,7 @@ use crate::lists::EntryFault;
 /// # ended(|| {
 /// let mut lists = ListReader::new(Global, Refusals::new());
 /// read_list(&mut lists, 1, &mut cidr_programs::lines::watched::Watched::new(b"10.0.0.0/33".as_slice()))?;
-/// let (_, _, refusals) = lists.into_sets();
+/// let (_, _, refusals) = lists.into_networks();
 /// assert_eq!(refusals.kept()[0].fault, LineFault::Entry(EntryFault::Prefix));
 /// # Ok(())
 /// # });

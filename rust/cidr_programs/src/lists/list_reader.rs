@@ -8,7 +8,6 @@ use crate::lists::fault::LineFault;
 use crate::lists::networks::Networks;
 use crate::lists::refusals::{Refusal, Refusals};
 use fosibegan_core::ipnetwork::{IpAddr, IpNetwork, Ipv4Network, Ipv6Network};
-use fosibegan_core::ipnetwork_sets::AddressSet;
 use fosibegan_core::plain_std::alloc::{AllocError, Global};
 
 /// Collects the networks that the lines of lists name, by family, and the lines that are refused.
@@ -23,9 +22,9 @@ use fosibegan_core::plain_std::alloc::{AllocError, Global};
 /// let mut lists = ListReader::new(Global, Refusals::new());
 /// read_list(&mut lists, 1, &mut cidr_programs::lines::watched::Watched::new(b"10.0.0.0/9\n::1".as_slice()))?;
 /// read_list(&mut lists, 2, &mut cidr_programs::lines::watched::Watched::new(b"10.128.0.0/9".as_slice()))?;
-/// let (v4, v6, _) = lists.into_sets();
-/// assert_eq!(v4.blocks(), ["10.0.0.0/8".parse()?].as_slice());
-/// assert_eq!(v6.blocks(), ["::1/128".parse()?].as_slice());
+/// let (v4, v6, _) = lists.into_networks();
+/// assert_eq!(v4.as_slice(), ["10.0.0.0/9".parse()?, "10.128.0.0/9".parse()?].as_slice());
+/// assert_eq!(v6.as_slice(), ["::1/128".parse()?].as_slice());
 /// # Ok(())
 /// # });
 /// ```
@@ -46,7 +45,7 @@ impl ListReader {
     /// ```
     /// # use cidr_programs::in_examples::*;
     /// let lists = ListReader::new(Global, Refusals::new());
-    /// let (v4, v6, refusals) = lists.into_sets();
+    /// let (v4, v6, refusals) = lists.into_networks();
     /// assert!(v4.is_empty() && v6.is_empty() && refusals.is_empty());
     /// ```
     pub fn new(alloc: Global, refusals: Refusals) -> ListReader {
@@ -79,23 +78,6 @@ impl ListReader {
     /// ```
     pub fn is_out_of_memory(&self) -> bool {
         self.is_out_of_memory
-    }
-
-    /// Returns the set of the addresses of each family, and the refused lines.
-    ///
-    /// ```
-    /// # use cidr_programs::in_examples::*;
-    /// # ended(|| {
-    /// let mut lists = ListReader::new(Global, Refusals::new());
-    /// read_list(&mut lists, 1, &mut cidr_programs::lines::watched::Watched::new(b"192.0.2.4-192.0.2.7".as_slice()))?;
-    /// let (v4, _, refusals) = lists.into_sets();
-    /// assert_eq!(v4.blocks(), ["192.0.2.4/30".parse()?].as_slice());
-    /// assert!(refusals.is_empty());
-    /// # Ok(())
-    /// # });
-    /// ```
-    pub fn into_sets(self) -> (AddressSet<Ipv4Network>, AddressSet<Ipv6Network>, Refusals) {
-        (self.v4.into_set(), self.v6.into_set(), self.refusals)
     }
 
     /// Returns the networks of each family, in the order in which they were read, and the refused

@@ -70,8 +70,8 @@ pub fn read_named<L: OpenLists>(
 /// # use cidr_programs::in_examples::*;
 /// let mut reader = cidr_programs::lists::ListReader::new(Global, cidr_programs::lists::Refusals::new());
 /// assert_eq!(cidr_programs::lists::read_text("10.0.0.0/8", 1, &mut reader), Ok(()));
-/// let (v4, _, _) = reader.into_sets();
-/// assert_eq!(v4.blocks().len(), 1);
+/// let (v4, _, _) = reader.into_networks();
+/// assert_eq!(v4.len(), 1);
 /// ```
 pub fn read_text(text: &str, place: usize, reader: &mut ListReader) -> Result<(), ReadFault> {
     take_text(reader, place, text);

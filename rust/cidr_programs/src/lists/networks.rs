@@ -4,7 +4,6 @@
 
 use fosibegan_core::plain_std::vec::Vec;
 use fosibegan_core::ipnetwork_blocks::{AddressSpace, range_to_blocks};
-use fosibegan_core::ipnetwork_sets::AddressSet;
 use fosibegan_core::plain_std::alloc::{AllocError, Global};
 
 /// Networks of one family, in the order in which they were read.
@@ -43,10 +42,5 @@ impl<N: AddressSpace> Networks<N> {
     /// Returns the networks, in their order.
     pub(crate) fn into_vec(self) -> Vec<N> {
         self.networks
-    }
-
-    /// Returns the set of their addresses, in the memory of the networks.
-    pub(crate) fn into_set(self) -> AddressSet<N> {
-        AddressSet::from_networks(self.networks)
     }
 }

@@ -16,7 +16,7 @@ use fosibegan_core::plain_std::io::Read;
 /// let line = [b'#'].kit_repeat(Global, LINE_MAX + 1)?;
 /// let mut lists = ListReader::new(Global, Refusals::new());
 /// read_list(&mut lists, 1, &mut cidr_programs::lines::watched::Watched::new(line.as_slice()))?;
-/// assert_eq!(lists.into_sets().2.kept()[0].fault, LineFault::Length);
+/// assert_eq!(lists.into_networks().2.kept()[0].fault, LineFault::Length);
 /// # Ok(())
 /// # });
 /// ```
@@ -38,8 +38,8 @@ const BUFFER_MAX: usize = 65536;
 /// let mut lists = ListReader::new(Global, Refusals::new());
 /// let list = b"# private\n10.0.0.0/8\n10.0.0.0/33\n".as_slice();
 /// read_list(&mut lists, 1, &mut cidr_programs::lines::watched::Watched::new(list))?;
-/// let (v4, _, refusals) = lists.into_sets();
-/// assert_eq!(v4.blocks(), ["10.0.0.0/8".parse()?].as_slice());
+/// let (v4, _, refusals) = lists.into_networks();
+/// assert_eq!(v4.as_slice(), ["10.0.0.0/8".parse()?].as_slice());
 /// assert_eq!(refusals.kept()[0].line, 3);
 /// # Ok(())
 /// # });

@@ -12,7 +12,7 @@ use crate::lists::fault::LineFault;
 /// let list = b"x\n".kit_repeat(Global, 103)?;
 /// let mut lists = ListReader::new(Global, Refusals::new());
 /// read_list(&mut lists, 1, &mut cidr_programs::lines::watched::Watched::new(list.as_slice()))?;
-/// let (_, _, refusals) = lists.into_sets();
+/// let (_, _, refusals) = lists.into_networks();
 /// assert_eq!(refusals.kept().len(), REFUSALS_MAX);
 /// # Ok(())
 /// # });
@@ -26,7 +26,7 @@ pub const REFUSALS_MAX: usize = 100;
 /// # ended(|| {
 /// let mut lists = ListReader::new(Global, Refusals::new());
 /// read_list(&mut lists, 7, &mut cidr_programs::lines::watched::Watched::new(b"10.0.0.1\n10.0.0.256".as_slice()))?;
-/// let (_, _, refusals) = lists.into_sets();
+/// let (_, _, refusals) = lists.into_networks();
 /// let fault = LineFault::Entry(EntryFault::Address);
 /// assert_eq!(refusals.kept()[0], Refusal { list: 7, line: 2, fault });
 /// # Ok(())
@@ -51,7 +51,7 @@ pub struct Refusal {
 /// let list = b"x\n".kit_repeat(Global, 103)?;
 /// let mut lists = ListReader::new(Global, Refusals::new());
 /// read_list(&mut lists, 1, &mut cidr_programs::lines::watched::Watched::new(list.as_slice()))?;
-/// let (_, _, refusals) = lists.into_sets();
+/// let (_, _, refusals) = lists.into_networks();
 /// assert_eq!((refusals.kept().len(), refusals.more()), (100, 3));
 /// # Ok(())
 /// # });
@@ -103,7 +103,7 @@ impl Refusals {
     /// # ended(|| {
     /// let mut lists = ListReader::new(Global, Refusals::new());
     /// read_list(&mut lists, 1, &mut cidr_programs::lines::watched::Watched::new(b"1.1.1.1/8/8\nx".as_slice()))?;
-    /// let (_, _, refusals) = lists.into_sets();
+    /// let (_, _, refusals) = lists.into_networks();
     /// assert_eq!(refusals.kept()[0].fault.text(), "format");
     /// assert_eq!(refusals.kept()[1].fault.text(), "address");
     /// # Ok(())
@@ -121,7 +121,7 @@ impl Refusals {
     /// let list = b"x\n".kit_repeat(Global, 103)?;
     /// let mut lists = ListReader::new(Global, Refusals::new());
     /// read_list(&mut lists, 1, &mut cidr_programs::lines::watched::Watched::new(list.as_slice()))?;
-    /// let (_, _, refusals) = lists.into_sets();
+    /// let (_, _, refusals) = lists.into_networks();
     /// assert_eq!(refusals.more(), 3);
     /// # Ok(())
     /// # });
@@ -137,7 +137,7 @@ impl Refusals {
     /// # ended(|| {
     /// let mut lists = ListReader::new(Global, Refusals::new());
     /// read_list(&mut lists, 1, &mut cidr_programs::lines::watched::Watched::new(b"::/129".as_slice()))?;
-    /// let (_, _, refusals) = lists.into_sets();
+    /// let (_, _, refusals) = lists.into_networks();
     /// assert!(Refusals::new().is_empty());
     /// assert!(!refusals.is_empty());
     /// # Ok(())

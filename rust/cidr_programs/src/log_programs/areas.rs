@@ -3,25 +3,25 @@
 //! Where to look for the addresses of a line, by the options that all programs for logs share.
 
 use crate::log_programs::rows::{AFTER, ANYWHERE, FIELD, NTH, SEPARATOR, WORDS};
-use crate::line_addresses::{Area, Part, Pick, Text};
+use crate::line_addresses::{Area, Part, Pick, Place, Text, ordinal_in};
 use crate::options::given::{is_given, value_of};
 use crate::options::items::Item;
-use crate::options::values::{byte_in, field_in};
+use crate::options::values::byte_in;
 
 /// Returns where to look for the addresses of a line, and which of those to use, by the options of
 /// a command line.
 ///
 /// ```
 /// # use cidr_programs::in_examples::*;
-/// use cidr_programs::line_addresses::{Part, Pick};
+/// use cidr_programs::line_addresses::{Part, Pick, Place};
 /// use cidr_programs::options::items::{Item, Text};
 ///
 /// let area = cidr_programs::log_programs::areas::area_of(&[Item::Flag(1)]);
-/// assert!(matches!(&area.part, Part::Word(1)));
+/// assert!(matches!(&area.part, Part::Word(Place::Number(1))));
 /// assert_eq!(area.pick, Pick::Whole);
 /// let within = [Item::Flag(0), Item::Value(2, Text::new("8"))];
 /// let area = cidr_programs::log_programs::areas::area_of(&within);
-/// assert!(matches!(&area.part, Part::Field { number: 8, .. }));
+/// assert!(matches!(&area.part, Part::Field { place: Place::Number(8), .. }));
 /// assert_eq!(area.pick, Pick::Each);
 /// let last = [Item::Value(4, Text::new("from ")), Item::Value(9, Text::new("last"))];
 /// assert_eq!(cidr_programs::log_programs::areas::area_of(&last).pick, Pick::Last);
@@ -38,15 +38,15 @@ fn part_of<'a>(items: &[Item<'a>]) -> Part<'a> {
     if is_given(items, AFTER) {
         return Part::After(Text::new(value_of(items, AFTER).as_bytes()));
     }
-    let number = field_in(value_of(items, FIELD)).unwrap_or(1);
+    let place = Place::read(value_of(items, FIELD).as_bytes()).unwrap_or(Place::Number(1));
     if is_given(items, WORDS) {
-        return Part::Word(number);
+        return Part::Word(place);
     }
     if !is_in_a_field(items) {
         return Part::Line;
     }
     let separator = byte_in(value_of(items, SEPARATOR)).unwrap_or(b' ');
-    Part::Field { number, separator }
+    Part::Field { place, separator }
 }
 
 // Returns whether the part is a field, if neither `-w` nor `--after` is given.
@@ -74,5 +74,5 @@ fn nth_in(value: &str) -> Pick {
     if value == "last" {
         return Pick::Last;
     }
-    Pick::Number(field_in(value).unwrap_or(1))
+    Pick::Number(ordinal_in(value.as_bytes()).unwrap_or(1))
 }

@@ -11,11 +11,11 @@ use crate::line_addresses::{Area, part_of, picked};
 /// ```
 /// # use cidr_programs::in_examples::*;
 /// # ended(|| {
-/// use cidr_programs::line_addresses::{Area, Part, Pick};
+/// use cidr_programs::line_addresses::{Area, Part, Pick, Place};
 /// use cidr_programs::log_programs::finding::found_in;
 ///
 /// let line = b"GET 192.0.2.7";
-/// let second = Area { part: Part::Word(2), pick: Pick::Whole };
+/// let second = Area { part: Part::Word(Place::Number(2)), pick: Pick::Whole };
 /// assert_eq!(found_in(&second, line), Some("192.0.2.7".parse()?));
 /// let first = Area { part: Part::Line, pick: Pick::Number(1) };
 /// assert_eq!(found_in(&first, b"10.1.1.1 10.1.1.2"), Some("10.1.1.1".parse()?));

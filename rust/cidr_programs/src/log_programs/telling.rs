@@ -5,7 +5,7 @@
 
 use crate::log_programs::log_stats::LogStats;
 use crate::log_programs::without_address::WithoutAddress;
-use crate::line_addresses::{Area, Part, Pick, Text};
+use crate::line_addresses::{Area, Part, Pick, Place, Text};
 use crate::lines::output::Output;
 use crate::lists::OpenFault;
 use crate::program::log_fault::tell_fault_of;
@@ -18,10 +18,10 @@ use fosibegan_core::plain_std::io::Write;
 ///
 /// ```
 /// # use cidr_programs::in_examples::*;
-/// use cidr_programs::line_addresses::{Area, Part, Pick};
+/// use cidr_programs::line_addresses::{Area, Part, Pick, Place};
 /// use cidr_programs::log_programs::telling::tell_lacking;
 ///
-/// let area = Area { part: Part::Word(3), pick: Pick::Number(2) };
+/// let area = Area { part: Part::Word(Place::Number(3)), pick: Pick::Number(2) };
 /// let (mut slice, mut room) = ([0; 64], [b'.'; 64]);
 /// let mut errors = cidr_programs::lines::output::Output::new(room.as_mut_slice(), &mut slice);
 /// tell_lacking("cidr_filter", &area, "log", 7, false, &mut errors);
@@ -39,8 +39,6 @@ pub fn tell_lacking<E: Write>(
 ) {
     if lacks(lines, is_addressed) {
         tell_area(program, area, name, errors);
-    } else {
-        tell("", errors);
     }
 }
 
@@ -79,17 +77,17 @@ fn tell_needed<E: Write>(number: u32, errors: &mut Output<'_, E>) {
 // Reports which part of a line is searched.
 fn tell_where<E: Write>(part: &Part<'_>, errors: &mut Output<'_, E>) {
     match part {
-        Part::Field { number, .. } => tell_nth("in field ", *number, errors),
-        Part::Word(number) => tell_nth("in word ", *number, errors),
+        Part::Field { place, .. } => tell_place("in field ", *place, errors),
+        Part::Word(place) => tell_place("in word ", *place, errors),
         Part::Line => tell("anywhere in it", errors),
         Part::After(text) => tell_after(text, errors),
     }
 }
 
-// Reports a text, and then a number.
-fn tell_nth<E: Write>(text: &str, number: u32, errors: &mut Output<'_, E>) {
+// Reports a text, and then a place.
+fn tell_place<E: Write>(text: &str, place: Place, errors: &mut Output<'_, E>) {
     tell(text, errors);
-    tell_number(u64::from(number), errors);
+    tell(place.text().as_str(), errors);
 }
 
 // Reports the text after which the address is searched.
@@ -185,8 +183,6 @@ fn tell_missed<E: Write>(
         tell(":", errors);
         tell_number(number, errors);
         tell(": line too long\n", errors);
-    } else {
-        tell("", errors);
     }
 }
 
@@ -205,7 +201,5 @@ fn tell_asked<E: Write>(
         tell(", too long: ", errors);
         tell_number(seen.long, errors);
         tell("\n", errors);
-    } else {
-        tell("", errors);
     }
 }

@@ -37,7 +37,7 @@ pub fn refuse<E: Write>(
     tell(program, errors);
     tell(": ", errors);
     tell_subject(rows, &fault.subject, errors);
-    tell_text(&fault.problem, errors);
+    tell(fault.problem.as_str(), errors);
     tell("\n", errors);
     tell(usage, errors);
     FAILED
@@ -46,7 +46,7 @@ pub fn refuse<E: Write>(
 // Writes the subject of a fault, as it stands before the problem.
 fn tell_subject<E: Write>(rows: &[Row], subject: &Subject<'_>, errors: &mut Output<'_, E>) {
     match subject {
-        Subject::CommandLine => tell("", errors),
+        Subject::CommandLine => {}
         Subject::Word(word) => {
             tell_word(word, errors);
             tell(": ", errors);
@@ -67,17 +67,12 @@ fn tell_subject<E: Write>(rows: &[Row], subject: &Subject<'_>, errors: &mut Outp
 // Writes the option of a row: its letter after `-`, or its long name if it has no letter.
 fn tell_option<E: Write>(rows: &[Row], row: usize, errors: &mut Output<'_, E>) {
     let Some(row) = rows.get(row) else {
-        return tell("", errors);
+        return;
     };
     match row.letter {
         Some(letter) => tell_bytes(&[b'-', letter], errors),
         None => tell(row.name, errors),
     }
-}
-
-// Writes a text to the error writer.
-fn tell_text<E: Write>(text: &Text<'_>, errors: &mut Output<'_, E>) {
-    tell(text.as_str(), errors);
 }
 
 // Writes a word as messages show it.

@@ -22,9 +22,9 @@ pub enum Kind {
     Text,
     /// Decimal digits, one or more.
     Number,
-    /// The number of a field, from 1 to 4,294,967,295.
+    /// The place of a field or word, as `Place::read` of `line_addresses` reads it.
     Field,
-    /// The number of a field, `first` or `last`.
+    /// A number from 1 to 4,294,967,295, `first` or `last`.
     Nth,
     /// One byte of ASCII other than LF, CR and NUL.
     Separator,

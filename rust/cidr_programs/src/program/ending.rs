@@ -36,7 +36,6 @@ pub fn end<E: Write>(
         tell_of(program, ": write error\n", errors);
         return FAILED;
     }
-    tell("", errors);
     status
 }
 

@@ -3,8 +3,8 @@
 //! Reports about lists on the error writer. If the write of one fails, nothing else changes.
 
 use fosibegan_core::plain_std::string::String;
+use crate::program::command_line::text_at;
 use crate::program::messages::{tell, tell_head, tell_number, tell_of};
-use crate::program::words::text_at;
 use crate::lines::output::Output;
 use crate::lists::{ReadFault, Refusal, Refusals};
 use fosibegan_core::plain_std::io::Write;

@@ -109,11 +109,13 @@ fn ends_behind<N: AddressSpace>(network: N, address: N::Addr) -> bool {
     address < network.broadcast()
 }
 
-// Returns the widest block that begins at `first` and does not end after `last`. If `first` has
-// fewer trailing zeros than there are bits after those that it shares with `last`, it is the block
-// with these zeros as host bits. Otherwise it is the smallest block that contains both if that ends
-// at `last`, or else the lower half of that block.
-fn widest_block<N: AddressSpace>(first: N::Addr, last: N::Addr) -> N {
+/// Returns the widest block that begins at `first` and does not end after `last`: the first of the
+/// blocks that [`range_to_blocks`] returns. `first` must not come after `last`.
+///
+/// If `first` has fewer trailing zeros than there are bits after those that it shares with `last`,
+/// it is the block with these zeros as host bits. Otherwise it is the smallest block that contains
+/// both if that ends at `last`, or else the lower half of that block.
+pub(crate) fn widest_block<N: AddressSpace>(first: N::Addr, last: N::Addr) -> N {
     let aligned = N::WIDTH - N::trailing_zeros(first);
     let shared = N::shared_bits(first, last);
     if shared < aligned {

@@ -2,9 +2,10 @@
 
 //! The addresses that are in one set and not in another.
 
+use crate::ipnetwork_sets::free_range::first_free_range;
 use crate::ipnetwork_sets::held::split_held;
-use crate::ipnetwork_sets::pieces::{first_free, piece_behind};
-use crate::ipnetwork_blocks::{AddressSpace, HoldsNetwork, block};
+use crate::ipnetwork_sets::order::ends_at;
+use crate::ipnetwork_blocks::{AddressSpace, HoldsNetwork, block, widest_block};
 
 /// An iterator over the blocks of a difference of sets, in ascending order. `H` is the type of the
 /// elements of the sets' lists: networks, or values that hold them.
@@ -27,11 +28,11 @@ pub struct Difference<'a, N: AddressSpace, H: HoldsNetwork<N> = N> {
     cut: &'a [H],
 }
 
-/// A block and a piece of it; the addresses of the block before the piece are done.
+/// A block, and a network whose own address is one of the block; the addresses before it are done.
 #[derive(Clone, Copy, Debug)]
 struct Part<N: AddressSpace> {
     whole: N,
-    piece: N,
+    next: N,
 }
 
 impl<'a, N: AddressSpace, H: HoldsNetwork<N>> Difference<'a, N, H> {
@@ -73,10 +74,7 @@ impl<'a, N: AddressSpace, H: HoldsNetwork<N>> Difference<'a, N, H> {
     pub(crate) fn within(network: N, cut: &'a [H]) -> Self {
         let whole = block(network);
         Difference {
-            at_hand: Some(Part {
-                whole,
-                piece: whole,
-            }),
+            at_hand: Some(Part { whole, next: whole }),
             rest: &cut[..0],
             cut,
         }
@@ -111,11 +109,12 @@ fn next_left<'a, N: AddressSpace, H: HoldsNetwork<N>>(
             return None;
         };
         rest = after;
-        let (free, left) = first_free::<N, H>(part.whole, part.piece, cut);
+        let (free, left) = first_free_range::<N, H>(part.whole, part.next.ip(), cut);
         cut = left;
-        if let Some(piece) = free {
-            let next = part_behind(part.whole, piece);
-            return Some((piece, next, rest, cut));
+        if let Some(range) = free {
+            let block = widest_block::<N>(range.0, range.1);
+            let next = part_behind(part.whole, block);
+            return Some((block, next, rest, cut));
         }
         at_hand = None;
     }
@@ -133,19 +132,23 @@ fn take_part<'a, N: AddressSpace, H: HoldsNetwork<N>>(
             let Some((whole, after)) = split_held::<N, H>(rest) else {
                 return None;
             };
-            let part = Part {
-                whole,
-                piece: whole,
-            };
+            let part = Part { whole, next: whole };
             Some((part, after))
         }
     }
 }
 
-// The part of the whole after the piece; `None` if the whole ends with it.
-fn part_behind<N: AddressSpace>(whole: N, piece: N) -> Option<Part<N>> {
-    match piece_behind(whole, piece) {
-        Some(piece) => Some(Part { whole, piece }),
-        None => None,
+// The part of the whole after the block; `None` if the whole ends with it.
+fn part_behind<N: AddressSpace>(whole: N, block: N) -> Option<Part<N>> {
+    let last = block.broadcast();
+    if ends_at(whole, last) {
+        return None;
     }
+    let Some(next) = N::next_address(last) else {
+        unreachable!()
+    };
+    Some(Part {
+        whole,
+        next: N::block_at(next, N::WIDTH),
+    })
 }

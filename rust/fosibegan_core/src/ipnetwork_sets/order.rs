@@ -14,9 +14,9 @@ pub(crate) fn ends_at<N: AddressSpace>(network: N, last: N::Addr) -> bool {
     last == network.broadcast()
 }
 
-/// Whether both have the same address.
-pub(crate) fn begin_alike<N: AddressSpace>(first: N, second: N) -> bool {
-    first.ip() == second.ip()
+/// Whether the first address comes before the second.
+pub(crate) fn is_before<N: AddressSpace>(first: N::Addr, second: N::Addr) -> bool {
+    first < second
 }
 
 /// Whether the second begins right after the first.

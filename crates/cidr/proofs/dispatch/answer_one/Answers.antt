@@ -1,6 +1,4 @@
-use Rattle.cidr.specs.Private.Routes.{routes_of}
-use Rattle.cidr.specs.Requests.{one_word_request}
-use Rattle.cidr.proofs.Requests.{plain_reply}
+use Rattle.cidr.proofs.Known.{routes_of, one_word_request, plain_reply}
 use Rattle.cidr.proofs.dispatch.answer_one.Goals as goal
 
 pub returns-else-is_find : goal.returns-else-is_find

@@ -1,6 +1,4 @@
-use Rattle.cidr.specs.Private.Routes.{routes_of}
-use Rattle.cidr.specs.Requests.{two_words_request}
-use Rattle.cidr.proofs.Requests.{plain_reply}
+use Rattle.cidr.proofs.Known.{routes_of, two_words_request, plain_reply}
 use Rattle.cidr.proofs.dispatch.answer_two.Goals as goal
 
 pub returns-else-is_add : goal.returns-else-is_add

@@ -1,14 +1,12 @@
-use Rattle.std.proofs.Common.{◌≡◌, ◌+◌, ◌*◌, ◌≤◌, length, if◌then◌else◌}
-use Rattle.lines.specs.LineBuffers.{work}
-use Rattle.lines.specs.Watched.{device_of, has_failed}
-use Rattle.cidr.specs.Private.Progress.{standing, begun, RunSoFar}
-use Rattle.cidr.specs.declared.replies.TheConstants.{ANSWER_MAX}
+use Rattle.cidr.proofs.Known.{◌≡◌, ◌+◌, ◌*◌, ◌≤◌, length, if◌then◌else◌, work, device_of, has_failed, standing, begun, RunSoFar, ANSWER_MAX}
 use Rattle.cidr.proofs.run.answer_all.Given as goal
 
 abbrev pub invariant-lines : goal.invariant-lines
 invariant-lines g l = record {
-  sofar : RunSoFar l.limit l.room l.lines (g.R.Read.remaining (device_of l.initial.reader)) (g.R.Read.remaining (device_of l.reader))
-      (begun (g.W.Write.contents (device_of l.initial.writer))) (standing (g.W.Write.contents (device_of l.writer)) l.answering);
+  sofar : RunSoFar l.limit l.room l.lines (g.R.Read.remaining (device_of l.initial.reader))
+      (g.R.Read.remaining (device_of l.reader))
+      (begun (g.W.Write.contents (device_of l.initial.writer)))
+      (standing (g.W.Write.contents (device_of l.writer)) l.answering);
   max : l.lines.limit ≡ 1024;
   size : length l.lines.bytes ≡ 65536;
   fits : ANSWER_MAX ≤ l.answering.waiting.capacity;

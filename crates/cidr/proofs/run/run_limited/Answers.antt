@@ -1,6 +1,4 @@
-use Rattle.std.proofs.Common.{◌∙◌, sym, rules}
-use Rattle.lines.specs.Watched.{has_failed}
-use Rattle.cidr.proofs.Succeeds.{ran_output, ran_succeeds}
+use Rattle.cidr.proofs.Known.{◌∙◌, sym, rules, has_failed, ran_output, ran_succeeds}
 use Rattle.cidr.proofs.run.run_limited.Goals as goal
 
 pub returns : goal.returns

@@ -1,156 +1,117 @@
-use Rattle.std.proofs.Common.{◌∙◌, Bool, ap, refl, sym}
-use Rattle.std.specs.Prelude.{Ok}
-use Rattle.lines.specs.Watched.{device_of, has_failed}
-use Rattle.lines.proofs.Putting.{puts_nothing}
-use Rattle.lines.proofs.Writes.{still_works}
-use Rattle.program.proofs.Counts.{counts_none}
-use Rattle.program.specs.declared.log_fault.LogFault.TheVariants.{Length}
-use Rattle.program.specs.declared.log_reader.NextLogLine.{NextLogLine}
-use Rattle.cidr_filter.specs.Filters.{one_if}
-use Rattle.cidr_filter.specs.declared.log.Reached.{Reached}
-use Rattle.cidr_filter.specs.Stands.{stand, begun}
-use Rattle.log_programs.proofs.Failing.{or_on}
-use Rattle.log_programs.proofs.Handed.{handed_out}
-use Rattle.log_programs.proofs.LogEnds.{at_end, at_line, at_ask}
-use Rattle.cidr_filter.proofs.Filtering.{goes_nowhere, begins_with, after_line_with, after_long_with}
-use Rattle.cidr_filter.proofs.Spent.{none_may, less_more, all_selected, last_selected}
-use Rattle.cidr_filter.proofs.Left.{no_read, reads_still, line_left, line_left_unwritten, all_left, all_left_unwritten}
-use Rattle.cidr_filter.proofs.Stopping.{line_stops, no_read_at_line, long_line_stops, log_ends, breaks}
+use Rattle.cidr_filter.proofs.Known.{◌∙◌, ℕ, List, inl, inr, refl, sym, ap, subst, append-nil, Some, err_from_is_err_and, AppendsBeginning, device_of, has_failed, puts_out, failed_now, handed_out, begins, after_line, after_long, line_stops, long_stops, log_ends, log_left, unwritten, breaks, FiltersLine, is_full, passes, stops}
+use Rattle.cidr_filter.specs.declared.filter.Verdict.TheVariants as verdicts
+use Rattle.cidr_filter.specs.declared.log.Reached.TheVariants as reached
 use Rattle.cidr_filter.proofs.log.filter_log.Goals as goal
-
--- ---- no line may be selected
-
-pub returns-then-is_spent : goal.returns-then-is_spent
-returns-then-is_spent g c =
-    let none = none_may c.args.filter.now.most (sym c.is_spent.ensures ∙ c.if-is_spent.true) in
-    record {
-      ok = all_left c.args.filter.now c.args.log.now _ (c.requires.unread _) c.args.output.now c.leave.new.output c.args.tally.now (record c.args.tally.now { seen = c.new-tally.result }) refl c.new-tally.ensures none c.leave.result c.leave.ensures.last c.leave.ensures.ok;
-      err = all_left_unwritten c.args.filter.now c.args.log.now _ (c.requires.unread _) c.args.output.now c.leave.new.output c.args.tally.now (record c.args.tally.now { seen = c.new-tally.result }) refl c.new-tally.ensures none (has_failed c.args.reader.now) c.leave.result
-          c.leave.ensures.fault c.leave.ensures.failed c.leave.ensures.beginning;
-      reader_failed = reads_still c.leave.result _ _ c.leave.ensures.fault refl;
-      writer_failed = c.leave.ensures.writer_failed;
-      written = c.leave.ensures.written;
-      handed_on = λ is. absurd (no_read c.leave.result c.leave.ensures.fault is);
-    }
 
 pub lines-init : goal.lines-init
 lines-init g c = record {
-  sofar = begins_with c.args.filter.now c.args.log.now _ (begun (stand c.args.output.now c.args.tally.now)) (stand c.args.output.now (record c.args.tally.now { seen = c.new-tally.result }))
-      (goes_nowhere (begun (stand c.args.output.now c.args.tally.now)) (stand c.args.output.now (record c.args.tally.now { seen = c.new-tally.result })) refl (puts_nothing _ _)) c.new-tally.ensures (c.requires.unread _) (sym c.is_spent.ensures ∙ c.if-is_spent.false);
+  sofar = begins (is_full c.args.filter.now) (FiltersLine c.args.filter.now) c.args.tally.now
+      (g.R.Read.remaining (device_of c.args.reader.now)) c.args.output.now c.args.log.now (c.requires.unread _);
   hurries = c.requires.hurries ∙ sym c.refuses-refuses_long_lines.ensures;
-  reads = refl;
-  writes = refl;
 }
 
 -- ---- a line
 
-pub returns-in-Err-filter_line : goal.returns-in-Err-filter_line
-returns-in-Err-filter_line g c =
-    let s = c.lines.invariant.sofar.0 in
-    let between = stand c.next.new.output c.lines.tally in
-    let stops = c.in-Err-filter_line.ensures.err in
-    at_line _ _ _ _ _ _ _ _ _ _ _ _ c.lines.invariant.reads (still_works _ _ _ c.in-Ok-Line.ensures.writer_failed c.lines.invariant.writes) Bool c.in-Err-filter_line.fault
-    (line_stops c.args.filter.now c.lines.log c.next.new.self _ _ _ _ (stand c.lines.output c.lines.tally) between s
-    (goes_nowhere (stand c.lines.output c.lines.tally) between refl c.in-Ok-Line.ensures.put) refl _ c.in-Ok-Line.end
-    c.line-line.result.now c.whole_line-whole.result.now (handed_out c.next.new.self (g.R.Read.remaining (device_of c.args.reader.now)) (g.R.Read.remaining (device_of c.next.new.reader)) s.first _ _ c.in-Ok-Line.field-0-is (c.in-Ok-Line.ensures.gives _ s.first s.hands))
-    c.line-line.ensures c.whole_line-whole.ensures (has_failed c.next.new.reader) c.filter_line.new.output.failed c.in-Err-filter_line.fault stops)
-    c.in-Err-filter_line.ensures.writer_failed (no_read_at_line Reached _ _ _ _ between (stand c.filter_line.new.output c.filter_line.new.tally) c.in-Err-filter_line.fault stops) c.in-Ok-Line.ensures.reader_failed
-
-pub lines-preserved-else-is_spent-2 : goal.lines-preserved-else-is_spent-2
-lines-preserved-else-is_spent-2 g c =
-    let s = c.lines.invariant.sofar.0 in
-    let between = stand c.next.new.output c.lines.tally in
+pub lines-preserved-in-Ok-Line : goal.lines-preserved-in-Ok-Line
+lines-preserved-in-Ok-Line g c =
+    let s = c.lines.invariant.sofar in
+    let remains = g.R.Read.remaining (device_of c.next.new.reader) in
     record {
-      sofar = after_line_with c.args.filter.now c.lines.log c.next.new.self _ _ _ _ (stand c.lines.output c.lines.tally) between s
-          (goes_nowhere (stand c.lines.output c.lines.tally) between refl c.in-Ok-Line.ensures.put) refl _ c.in-Ok-Line.end
-          c.line-line.result.now c.whole_line-whole.result.now (handed_out c.next.new.self (g.R.Read.remaining (device_of c.args.reader.now)) (g.R.Read.remaining (device_of c.next.new.reader)) s.first _ _ c.in-Ok-Line.field-0-is (c.in-Ok-Line.ensures.gives _ s.first s.hands))
-          c.line-line.ensures c.whole_line-whole.ensures c.in-Ok.is_selected c.in-Ok.ensures.ok
-          c.lines.left c.fewer-left.result c.lines.invariant.sofar.1 c.fewer-left.ensures (sym c.is_spent-in-Ok-Line.ensures ∙ c.if-is_spent-2.false);
+      sofar = after_line _ _ _ _ _ c.lines.log c.next.new.self _ remains c.lines.output c.next.new.output c.lines.tally
+          s
+          (has_failed c.next.new.reader) c.in-Ok-Line.ensures.put c.in-Ok-Line.end c.line-line.result.now
+          c.whole_line-whole.result.now
+          (handed_out c.next.new.self _ remains s.reads.first _ _ c.in-Ok-Line.field-0-is
+          (c.in-Ok-Line.ensures.gives _ s.reads.first s.reads.hands)) c.line-line.ensures c.whole_line-whole.ensures
+          (sym c.is_spent.ensures ∙ c.lines-test.true) c.filter_line.new.output c.filter_line.new.tally
+          (passes c.args.filter.now _ _ c.next.new.output c.lines.tally c.filter_line.new.output c.filter_line.new.tally
+          c.in_ok-filter_line-in-Ok-Line.ensures.ok);
       hurries = c.next.ensures.hurries ∙ c.lines.invariant.hurries;
-      reads = still_works _ _ _ c.in-Ok-Line.ensures.reader_failed c.lines.invariant.reads;
-      writes = still_works _ _ _ c.in-Ok.ensures.writer_failed
-          (still_works _ _ _ c.in-Ok-Line.ensures.writer_failed c.lines.invariant.writes);
     }
 
--- ---- the last line that may be selected
-
-pub returns-then-is_spent-2 : goal.returns-then-is_spent-2
-returns-then-is_spent-2 g c =
-    let s = c.lines.invariant.sofar.0 in
-    let between = stand c.next.new.output c.lines.tally in
-    let idle = goes_nowhere (stand c.lines.output c.lines.tally) between refl c.in-Ok-Line.ensures.put in
-    let given = (handed_out c.next.new.self (g.R.Read.remaining (device_of c.args.reader.now)) (g.R.Read.remaining (device_of c.next.new.reader)) s.first _ _ c.in-Ok-Line.field-0-is (c.in-Ok-Line.ensures.gives _ s.first s.hands)) in
-    let selected = c.in-Ok.is_selected in
-    let more = less_more c.args.filter.now.most c.lines.left c.fewer-left.result s.is_done.count (one_if selected) c.lines.invariant.sofar.1 c.fewer-left.ensures in
-    let spent = sym c.is_spent-in-Ok-Line.ensures ∙ c.if-is_spent-2.true in
-    record {
-      ok = line_left c.args.filter.now c.lines.log c.next.new.self _ _ _ _ (stand c.lines.output c.lines.tally) between s
-          idle refl c.filter_line.new.output c.leave-then-is_spent-2.new.output c.filter_line.new.tally c.in-Ok-Line.end
-          c.line-line.result.now c.whole_line-whole.result.now given
-          c.line-line.ensures c.whole_line-whole.ensures selected c.in-Ok.ensures.ok c.leave-then-is_spent-2.result
-          (all_selected c.args.filter.now.most c.fewer-left.result s.is_done.count selected more s.is_done.below spent)
-          (last_selected c.args.filter.now.most c.fewer-left.result s.is_done.count selected more s.is_done.below spent) c.leave-then-is_spent-2.ensures.last c.leave-then-is_spent-2.ensures.ok;
-      err = line_left_unwritten c.args.filter.now c.lines.log c.next.new.self _ _ _ _ (stand c.lines.output c.lines.tally) between s
-          idle refl c.filter_line.new.output c.leave-then-is_spent-2.new.output c.filter_line.new.tally c.in-Ok-Line.end
-          c.line-line.result.now c.whole_line-whole.result.now given
-          c.line-line.ensures c.whole_line-whole.ensures selected c.in-Ok.ensures.ok (has_failed c.next.new.reader) c.leave-then-is_spent-2.result
-          c.leave-then-is_spent-2.ensures.fault c.leave-then-is_spent-2.ensures.failed c.leave-then-is_spent-2.ensures.beginning;
-      reader_failed = reads_still c.leave-then-is_spent-2.result _ _ c.leave-then-is_spent-2.ensures.fault (still_works _ _ _ c.in-Ok-Line.ensures.reader_failed c.lines.invariant.reads);
-      writer_failed = or_on _ _ _ _ (still_works _ _ _ c.in-Ok.ensures.writer_failed (still_works _ _ _ c.in-Ok-Line.ensures.writer_failed c.lines.invariant.writes))
-          c.leave-then-is_spent-2.ensures.writer_failed;
-      written = c.leave-then-is_spent-2.ensures.written;
-      handed_on = λ is. absurd (no_read c.leave-then-is_spent-2.result c.leave-then-is_spent-2.ensures.fault is);
-    }
+pub returns-in_err-filter_line-in-Ok-Line : goal.returns-in_err-filter_line-in-Ok-Line
+returns-in_err-filter_line-in-Ok-Line g c =
+    let s = c.lines.invariant.sofar in
+    let remains = g.R.Read.remaining (device_of c.next.new.reader) in
+    let p = err_from_is_err_and c.from_residual.result c.from_residual.ensures.1 in
+    rw (p.1, p.2)
+    (line_stops _ _ _ _ _ c.lines.log c.next.new.self _ remains c.lines.output c.next.new.output c.lines.tally s
+    (has_failed c.next.new.reader) c.in-Ok-Line.ensures.put c.in-Ok-Line.end c.line-line.result.now
+    c.whole_line-whole.result.now
+    (handed_out c.next.new.self _ remains s.reads.first _ _ c.in-Ok-Line.field-0-is
+    (c.in-Ok-Line.ensures.gives _ s.reads.first s.reads.hands)) c.line-line.ensures c.whole_line-whole.ensures
+    (sym c.is_spent.ensures ∙ c.lines-test.true) c.in_err-filter_line-in-Ok-Line.field-0.0 c.filter_line.new.output
+    c.filter_line.new.tally
+    (stops c.args.filter.now _ _ c.next.new.output c.lines.tally c.filter_line.new.output
+    c.in_err-filter_line-in-Ok-Line.field-0.0 c.in_err-filter_line-in-Ok-Line.ensures.err))
 
 -- ---- a line that is too long
 
-pub returns-then-refuses_long_lines : goal.returns-then-refuses_long_lines
-returns-then-refuses_long_lines g c =
-    let s = c.lines.invariant.sofar.0 in
-    let between = stand c.next.new.output c.lines.tally in
-    at_line _ _ _ _ _ _ _ _ _ _ _ _ c.lines.invariant.reads c.lines.invariant.writes Bool Length
-    (long_line_stops c.args.filter.now c.lines.log c.next.new.self _ _ _ _ (stand c.lines.output c.lines.tally) between s
-    (goes_nowhere (stand c.lines.output c.lines.tally) between refl c.in-Ok-TooLong.ensures.put) refl
-    (handed_out c.next.new.self (g.R.Read.remaining (device_of c.args.reader.now)) (g.R.Read.remaining (device_of c.next.new.reader)) s.first _ _ c.in-Ok-TooLong.field-0-is (c.in-Ok-TooLong.ensures.gives _ s.first s.hands))
-    (sym c.refuses-refuses_long_lines.ensures ∙ c.if-refuses_long_lines.true))
-    c.in-Ok-TooLong.ensures.writer_failed refl c.in-Ok-TooLong.ensures.reader_failed
-
 pub lines-preserved : goal.lines-preserved
 lines-preserved g c =
-    let s = c.lines.invariant.sofar.0 in
-    let between = stand c.next.new.output c.lines.tally in
+    let s = c.lines.invariant.sofar in
+    let remains = g.R.Read.remaining (device_of c.next.new.reader) in
     let hurries = c.next.ensures.hurries ∙ c.lines.invariant.hurries in
     record {
-      sofar = after_long_with c.args.filter.now c.lines.log c.next.new.self _ _ _ _ (stand c.lines.output c.lines.tally) between s
-          (goes_nowhere (stand c.lines.output c.lines.tally) between refl c.in-Ok-TooLong.ensures.put) refl _ c.lines.left
-          (handed_out c.next.new.self (g.R.Read.remaining (device_of c.args.reader.now)) (g.R.Read.remaining (device_of c.next.new.reader)) s.first _ _ c.in-Ok-TooLong.field-0-is (c.in-Ok-TooLong.ensures.gives _ s.first s.hands)) (hurries ∙ c.if-refuses_long_lines.false)
-          (sym c.refuses-refuses_long_lines.ensures ∙ c.if-refuses_long_lines.false) (
-            puts_nothing _ _,
-            counts_none c.lines.tally.selected c.lines.tally.selected refl,
-          ) c.add_long.ensures c.lines.invariant.sofar.1;
+      sofar = after_long _ _ _ _ _ c.lines.log c.next.new.self _ remains c.lines.output c.next.new.output c.lines.tally
+          s
+          (has_failed c.next.new.reader) c.in-Ok-TooLong.ensures.put
+          (handed_out c.next.new.self _ remains s.reads.first _ _ c.in-Ok-TooLong.field-0-is
+          (c.in-Ok-TooLong.ensures.gives _ s.reads.first s.reads.hands))
+          (sym c.is_spent.ensures ∙ c.lines-test.true) (hurries ∙ c.if-refuses_long_lines.false) c.add.new.self
+          (λ line long. (
+            verdicts.TooLong,
+            long,
+            inr (sym c.refuses-refuses_long_lines.ensures ∙ c.if-refuses_long_lines.false, refl, ap Some c.add.ensures),
+          ));
       hurries = hurries;
-      reads = still_works _ _ _ c.in-Ok-TooLong.ensures.reader_failed c.lines.invariant.reads;
-      writes = still_works _ _ _ c.in-Ok-TooLong.ensures.writer_failed c.lines.invariant.writes;
     }
 
--- ---- the end of the log
+pub returns-then-refuses_long_lines : goal.returns-then-refuses_long_lines
+returns-then-refuses_long_lines g c =
+    let s = c.lines.invariant.sofar in
+    let remains = g.R.Read.remaining (device_of c.next.new.reader) in
+    long_stops _ _ _ _ _ c.lines.log c.next.new.self _ remains c.lines.output c.next.new.output c.lines.tally s
+    (has_failed c.next.new.reader) c.in-Ok-TooLong.ensures.put
+    (handed_out c.next.new.self _ remains s.reads.first _ _ c.in-Ok-TooLong.field-0-is
+    (c.in-Ok-TooLong.ensures.gives _ s.reads.first s.reads.hands))
+    (sym c.is_spent.ensures ∙ c.lines-test.true) c.lines.tally
+    (λ line long. (
+      verdicts.TooLong,
+      long,
+      inl (sym c.refuses-refuses_long_lines.ensures ∙ c.if-refuses_long_lines.true, (refl, refl)),
+    ))
+
+-- ---- no line more
 
 pub returns-in-Ok-End : goal.returns-in-Ok-End
 returns-in-Ok-End g c =
-    let s = c.lines.invariant.sofar.0 in
-    let between = stand c.next.new.output c.lines.tally in
-    at_end _ _ _ _ _ _ _ _ _ _ _ _ c.lines.invariant.reads c.lines.invariant.writes _
-    (log_ends c.args.filter.now c.lines.log c.next.new.self _ _ _ _ (stand c.lines.output c.lines.tally) between s
-    (goes_nowhere (stand c.lines.output c.lines.tally) between refl c.in-Ok-End.ensures.put) refl
-    (handed_out c.next.new.self (g.R.Read.remaining (device_of c.args.reader.now)) (g.R.Read.remaining (device_of c.next.new.reader)) s.first _ _ c.in-Ok-End.field-0-is (c.in-Ok-End.ensures.gives _ s.first s.hands)))
-    c.in-Ok-End.ensures.reader_failed c.in-Ok-End.ensures.writer_failed (c.in-Ok-End.ensures.written (ap Ok c.in-Ok-End.field-0-is))
-
--- ---- a log that is not read to its end
+    let s = c.lines.invariant.sofar in
+    let remains = g.R.Read.remaining (device_of c.next.new.reader) in
+    log_ends _ _ _ _ _ c.lines.log c.next.new.self _ remains c.lines.output c.next.new.output c.lines.tally s
+    (has_failed c.next.new.reader) c.in-Ok-End.ensures.put reached.End
+    (handed_out c.next.new.self _ remains s.reads.first _ _ c.in-Ok-End.field-0-is
+    (c.in-Ok-End.ensures.gives _ s.reads.first s.reads.hands))
 
 pub returns-in-Err : goal.returns-in-Err
 returns-in-Err g c =
-    let s = c.lines.invariant.sofar.0 in
-    at_ask _ _ _ _ _ _ _ _ _ _ _ _ c.lines.invariant.reads c.lines.invariant.writes NextLogLine c.in-Err.fault
-    (breaks c.args.filter.now c.lines.log _ _ _ _ c.lines.output c.next.new.output c.lines.tally s
-    (has_failed c.next.new.reader) c.in-Err.fault (c.in-Err.ensures.breaks _ s.first s.hands))
-    c.in-Err.ensures.writer_failed c.in-Err.ensures.reader_failed c.in-Err.ensures.handed_on
+    let s = c.lines.invariant.sofar in
+    breaks _ _ _ _ _ c.lines.log c.next.new.self _ (g.R.Read.remaining (device_of c.next.new.reader)) c.lines.output
+    c.next.new.output c.lines.tally s (has_failed c.next.new.reader) c.in-Err.fault c.lines.tally
+    (c.in-Err.ensures.breaks _ s.reads.first s.reads.hands)
+
+pub returns-in-Ok : goal.returns-in-Ok
+returns-in-Ok g c =
+    let remains = g.R.Read.remaining (device_of c.lines.reader) in
+    log_left _ _ _ _ _ c.lines.log c.lines.log _ remains c.lines.output c.hand_on.new.self c.lines.tally
+    c.lines.invariant.sofar (has_failed c.lines.reader) (puts_out _ _ _ _ c.in-Ok.ensures.emptied c.in-Ok.ensures.ok)
+    reached.Last (sym c.is_spent.ensures ∙ c.lines-test.false)
+
+pub returns-in-Err-hand_on : goal.returns-in-Err-hand_on
+returns-in-Err-hand_on g c =
+    let remains = g.R.Read.remaining (device_of c.lines.reader) in
+    unwritten _ _ _ _ _ c.lines.log c.lines.log _ remains c.lines.output c.hand_on.new.self c.lines.tally
+    c.lines.invariant.sofar (has_failed c.lines.reader) c.lines.tally
+    (failed_now c.hand_on.new.self.failed c.lines.output.failed c.in-Err-hand_on.ensures.failed)
+    (subst (λ (w : List ℕ). AppendsBeginning c.lines.output.holds c.hand_on.new.self.holds w)
+    (sym (append-nil c.lines.output.waits)) c.in-Err-hand_on.ensures.err)

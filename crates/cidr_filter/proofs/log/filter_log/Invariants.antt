@@ -1,19 +1,12 @@
-use Rattle.std.proofs.Common.{◌≡◌}
-use Rattle.lines.specs.Watched.{device_of, has_failed}
-use Rattle.program.specs.LogReaders.{left}
-use Rattle.cidr_filter.specs.Private.Progress.{FiltersWith}
-use Rattle.cidr_filter.specs.Stands.{stand, begun}
+use Rattle.cidr_filter.proofs.Known.{◌≡◌, device_of, left, PrintsSoFar, FiltersLine, is_full}
 use Rattle.cidr_filter.proofs.log.filter_log.Given as goal
 
 abbrev pub invariant-lines : goal.invariant-lines
 invariant-lines g l = record {
-  sofar : FiltersWith l.filter l.log
+  sofar : PrintsSoFar (is_full l.filter) (FiltersLine l.filter) l.initial.tally l.log
       (g.R.Read.remaining (device_of l.initial.reader)) (g.R.Read.remaining (device_of l.reader))
-      (begun (stand l.initial.output l.initial.tally))
-      (stand l.output l.tally) l.left;
+      l.initial.output l.output l.tally;
   hurries : l.log.hurries ≡ l.refuses_long_lines;
-  reads : has_failed l.reader ≡ has_failed l.initial.reader;
-  writes : l.output.failed ≡ l.initial.output.failed;
 }
 
 abbrev pub decreases-lines : goal.decreases-lines

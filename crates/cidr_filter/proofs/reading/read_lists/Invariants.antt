@@ -1,8 +1,4 @@
-use Rattle.std.proofs.Common.{◌≡◌, ◌≤◌, ◌-◌, false, length, drop}
-use Rattle.lists.specs.Lists.{ReadLists}
-use Rattle.lists.specs.Refusals.{Refused}
-use Rattle.lists.specs.declared.named.ReadFault.{ReadFault}
-use Rattle.cidr_filter.specs.Reading.{ReadsItems, StopsAtItems}
+use Rattle.cidr_filter.proofs.Known.{◌≡◌, ◌≤◌, ◌-◌, false, length, drop, ReadLists, Refused, ReadFault, ReadsItems, StopsAtItems}
 use Rattle.cidr_filter.proofs.reading.read_lists.Given as goal
 
 -- what is read of the remaining items is read of all items, and if the reading stops at one of them, it stops
@@ -12,8 +8,10 @@ invariant-items g l =
     record {
       within : l.at ≤ length l.items;
       memory : l.reader.is_out_of_memory ≡ false;
-      reads : (after : ReadLists) → ReadsItems known l.at (drop l.at l.items) l.reader after → ReadsItems known 0 l.items l.initial.reader after;
-      stops : (fault : ReadFault) (refused : Refused) → StopsAtItems known l.at (drop l.at l.items) l.reader fault refused → StopsAtItems known 0 l.items l.initial.reader fault refused;
+      reads : (after : ReadLists) → ReadsItems known l.at (drop l.at l.items) l.reader after
+          → ReadsItems known 0 l.items l.initial.reader after;
+      stops : (fault : ReadFault) (refused : Refused) → StopsAtItems known l.at (drop l.at l.items) l.reader fault
+          refused → StopsAtItems known 0 l.items l.initial.reader fault refused;
     }
 
 abbrev pub decreases-items : goal.decreases-items

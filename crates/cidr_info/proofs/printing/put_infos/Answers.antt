@@ -1,12 +1,4 @@
-use Rattle.std.proofs.Common.{rules, ◌∙◌, ◌+◌, ◌++◌, ◌&&◌, ℕ, Bool, List, ap, sym, refl, arith, append_assoc, drop}
-use Rattle.std.specs.Prelude.{Option}
-use Rattle.std.specs.Option.{is_none}
-use Rattle.ipnetwork.specs.declared.ip_network.IpNetwork.{IpNetwork}
-use Rattle.lines.proofs.Putting.{puts_more}
-use Rattle.program.proofs.Puts.{puts_two, puts_it, fails_first, works_still, works_on}
-use Rattle.cidr_info.specs.Texts.{infos_from}
-use Rattle.cidr_info.specs.Words.{if_some, networks_in}
-use Rattle.cidr_info.proofs.Texts.{infos_more, networks_at}
+use Rattle.cidr_info.proofs.Known.{rules, ◌∙◌, ◌+◌, ◌++◌, ◌&&◌, ℕ, Bool, List, ap, sym, arith, append_assoc, drop, Option, is_none, IpNetwork, puts_more, puts_two, puts_it, fails_first, works_still, works_on, infos_from, if_some, networks_in, infos_more, networks_at}
 use Rattle.cidr_info.proofs.printing.put_infos.Goals as goal
 
 pub loop-said-preserved : goal.loop-said-preserved
@@ -14,16 +6,17 @@ loop-said-preserved g c =
     let h = c.loop-said.invariant in
     let i = c.loop-said.said-index in
     let first = c.loop-said.is_first in
-    let network = c.said-item.result.network in
+    let network = c.said-item.result in
     let behind = networks_in (drop (i + 1) c.args.all.now) in
     let text = infos_from first c.args.json (if_some network) in
     let left = infos_from (first && is_none network) c.args.json behind in
-    let same = ap (infos_from first c.args.json) (networks_at c.args.all.now i c.said-item.result network (omega arith) c.said-item.is refl)
+    let same = ap (infos_from first c.args.json) (networks_at c.args.all.now i network (omega arith) c.said-item.is)
     ∙ infos_more first c.args.json network behind in (
       h.0 ++ text,
       puts_more _ _ _ _ _ _ h.0 text h.1 (rw c.network.ensures at c.in_ok-put_if_named.ensures.ok),
       works_on _ _ _ c.in_ok-put_if_named.ensures.failed h.2,
-      ap (λ (b : Bool). (h.0 ++ text) ++ infos_from b c.args.json behind) (c.stays_first-is_first.ensures ∙ ap (λ (n : Option IpNetwork). first && is_none n) c.network-in-loop-said.ensures)
+      ap (λ (b : Bool). (h.0 ++ text) ++ infos_from b c.args.json behind) (c.stays_first-is_first.ensures
+          ∙ ap (λ (n : Option IpNetwork). first && is_none n) c.network-in-loop-said.ensures)
           ∙ append_assoc h.0 text left ∙ sym (ap (λ (t : List ℕ). h.0 ++ t) same) ∙ h.3,
     )
 
@@ -32,11 +25,11 @@ returns-in_err-put_if_named g c =
     let h = c.loop-said.invariant in
     let i = c.loop-said.said-index in
     let first = c.loop-said.is_first in
-    let network = c.said-item.result.network in
+    let network = c.said-item.result in
     let behind = networks_in (drop (i + 1) c.args.all.now) in
     let text = infos_from first c.args.json (if_some network) in
     let left = infos_from (first && is_none network) c.args.json behind in
-    let same = ap (infos_from first c.args.json) (networks_at c.args.all.now i c.said-item.result network (omega arith) c.said-item.is refl)
+    let same = ap (infos_from first c.args.json) (networks_at c.args.all.now i network (omega arith) c.said-item.is)
     ∙ infos_more first c.args.json network behind in
     puts_it c.from_residual.result c.args.output.now c.put_if_named.new.output (h.0 ++ (text ++ left)) _
     (sym (ap (λ (t : List ℕ). h.0 ++ t) same) ∙ h.3)

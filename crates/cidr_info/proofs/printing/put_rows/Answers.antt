@@ -1,10 +1,4 @@
-use Rattle.std.proofs.Common.{rules, [], ◌++◌, ◌∙◌, ◌+◌, ℕ, List, ap, sym, refl, arith, append_assoc, drop}
-use Rattle.std.specs.List.{flat_map}
-use Rattle.std.proofs.lemmas.List.{at_drop_more}
-use Rattle.lines.proofs.Putting.{puts_more, puts_nothing}
-use Rattle.program.proofs.Puts.{puts_two, puts_it, fails_first, works_still, works_on}
-use Rattle.cidr_info.specs.Fields.{fields}
-use Rattle.cidr_info.specs.Texts.{row_text, info_text}
+use Rattle.cidr_info.proofs.Known.{rules, [], ◌++◌, ◌∙◌, ◌+◌, ℕ, List, ap, sym, refl, arith, append_assoc, drop, flat_map, at_drop_more, puts_more, puts_nothing, puts_two, puts_it, fails_first, works_still, works_on, fields, row_text, info_text}
 use Rattle.cidr_info.proofs.printing.put_rows.Goals as goal
 
 pub loop-field-init : goal.loop-field-init

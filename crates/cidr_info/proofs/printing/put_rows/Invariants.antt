@@ -1,8 +1,4 @@
-use Rattle.std.proofs.Common.{◌≡◌, ℕ, List, ◌++◌, drop}
-use Rattle.std.specs.List.{flat_map}
-use Rattle.lines.specs.Outputs.{Prints}
-use Rattle.cidr_info.specs.Fields.{fields}
-use Rattle.cidr_info.specs.Texts.{row_text, info_text}
+use Rattle.cidr_info.proofs.Known.{◌≡◌, ℕ, List, ◌++◌, drop, flat_map, Prints, fields, row_text, info_text}
 use Rattle.cidr_info.proofs.printing.put_rows.Given as goal
 
 -- what was put, and the rows that are left, are all

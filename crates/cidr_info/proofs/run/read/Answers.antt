@@ -1,4 +1,4 @@
-use Rattle.std.proofs.Common.{inr}
+use Rattle.cidr_info.proofs.Known.{inr}
 use Rattle.cidr_info.proofs.run.read.Goals as goal
 
 pub returns-in-Ok : goal.returns-in-Ok

@@ -1,28 +1,36 @@
-use Rattle.std.proofs.Common.{refl, arith}
-use Rattle.cidr_join.proofs.Listing.{none_taken, line_more, line_stops, all_taken}
+use Rattle.cidr_join.proofs.Known.{[], refl, arith, line_more, line_stops, all_taken, last_stops}
 use Rattle.cidr_join.proofs.list.take_list.Goals as goal
 
 pub lines-init : goal.lines-init
 lines-init g c = record {
   within = omega arith;
   few = omega arith;
-  taken = none_taken c.args.name.now c.args.rules c.args.text.now c.args.errors.now (record c.args.listing.now { lines = 0 }) refl;
+  taken = ([], refl, λ others end h. h);
 }
 
 pub lines-preserved : goal.lines-preserved
 lines-preserved g c = record {
   within = omega (arith, c.in-Some.ensures.within);
   few = omega (arith, c.lines.invariant.few, c.in-Some.ensures.behind, c.take_next.ensures.lines);
-  taken = line_more c.args.name.now c.args.rules c.args.text.now c.lines.at c.args.errors.now c.lines.errors c.take_next.new.errors (record c.args.listing.now { lines = 0 }) c.lines.listing c.take_next.new.listing
-      c.lines.invariant.taken c.in-Some.end c.in-Some.ensures c.take_next.ensures.lines c.in_default-take_next.ensures.ok;
+  taken = line_more c.args.rules c.args.text.now c.lines.at c.args.listing.now.networks c.lines.listing.networks
+      c.lines.invariant.taken
+      c.in-Some.end c.in-Some.ensures c.take_next.new.listing.networks c.in_default-take_next.ensures.ok;
 }
 
-pub returns-in-Err : goal.returns-in-Err
-returns-in-Err g c =
-    line_stops c.args.name.now c.args.rules c.args.text.now c.lines.at c.args.errors.now c.lines.errors c.take_next.new.errors (record c.args.listing.now { lines = 0 }) c.lines.listing c.take_next.new.listing
-    c.lines.invariant.taken c.in-Some.end c.in-Some.ensures c.in-Err.fault c.in-Err.ensures.err
+pub returns-in-Err-clause-err : goal.returns-in-Err-clause-err
+returns-in-Err-clause-err g c =
+    line_stops c.args.rules c.args.text.now c.lines.at c.args.listing.now.networks c.lines.listing.networks
+    c.lines.invariant.taken
+    c.in-Some.end c.in-Some.ensures c.in-Err.fault.fault c.in-Err.ensures.err
 
-pub returns : goal.returns
-returns g c =
-    all_taken c.args.name.now c.args.rules c.args.text.now c.lines.at c.args.errors.now c.lines.errors c.take_next-2.new.errors (record c.args.listing.now { lines = 0 }) c.lines.listing c.take_next-2.new.listing
-    c.lines.invariant.taken c.in_default.ensures c.take_next-2.result c.take_next-2.ensures.ok c.take_next-2.ensures.err
+pub returns-clause-ok : goal.returns-clause-ok
+returns-clause-ok g c =
+    all_taken c.args.rules c.args.text.now c.lines.at c.args.listing.now.networks c.lines.listing.networks
+    c.lines.invariant.taken
+    c.in_default.ensures c.take_next-2.result c.take_next-2.new.listing.networks c.take_next-2.ensures.ok
+
+pub returns-clause-err : goal.returns-clause-err
+returns-clause-err g c =
+    last_stops c.args.rules c.args.text.now c.lines.at c.args.listing.now.networks c.lines.listing.networks
+    c.lines.invariant.taken
+    c.in_default.ensures c.take_next-2.result c.take_next-2.ensures.err

@@ -1,5 +1,4 @@
-use Rattle.std.proofs.Common.{◌≤◌}
-use Rattle.cidr_join.proofs.LongestOver.{NoneBetween}
+use Rattle.cidr_join.proofs.Known.{◌≤◌, NoneBetween}
 use Rattle.cidr_join.proofs.longest.shorter_over.Given as goal
 
 abbrev pub invariant-shorter : goal.invariant-shorter

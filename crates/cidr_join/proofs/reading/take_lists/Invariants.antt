@@ -1,12 +1,12 @@
-use Rattle.std.proofs.Common.{◌≤◌, ◌-◌, length, drop, map}
-use Rattle.cidr_join.specs.Lists.{named_text}
-use Rattle.cidr_join.proofs.ListsInTurn.{TakenSoFar}
+use Rattle.cidr_join.proofs.Known.{◌≤◌, ◌-◌, length, drop, map, Option, lines_of, list_text, no_networks, Takes, Networks}
 use Rattle.cidr_join.proofs.reading.take_lists.Given as goal
 
 abbrev pub invariant-lists : goal.invariant-lists
 invariant-lists g l = record {
   within : l.at ≤ length l.lists;
-  so_far : TakenSoFar l.rules (map named_text l.lists) (map named_text (drop l.at l.lists)) l.listing l.initial.errors l.errors;
+  goes_on : (end : Option Networks)
+      → Takes l.rules l.listing.networks (lines_of (map list_text (drop l.at l.lists))) end
+      → Takes l.rules no_networks (lines_of (map list_text l.lists)) end;
 }
 
 abbrev pub decreases-lists : goal.decreases-lists

@@ -1,8 +1,4 @@
-use Rattle.std.proofs.Common.{◌≡◌, ◌∙◌, ◌&&◌, not, false, true≢false, List, sym, subst}
-use Rattle.std.proofs.lemmas.Result.{err_from_is_err_and}
-use Rattle.ipnetwork_family.specs.Network.{Network}
-use Rattle.cidr_join.specs.Routes.{one_has}
-use Rattle.cidr_join.proofs.Taking.{none_set, one_more_set, all_set, only_memory}
+use Rattle.cidr_join.proofs.Known.{◌≡◌, ◌∙◌, ◌&&◌, not, false, true≢false, List, sym, subst, err_from_is_err_and, Network, one_has, none_set, one_more_set, all_set, only_memory}
 use Rattle.cidr_join.proofs.routes.set_range.Goals as goal
 
 pub loop-block-init : goal.loop-block-init
@@ -10,7 +6,8 @@ loop-block-init g c = none_set g.N.CidrNetwork.WIDTH c.args.table.now c.args.val
 
 pub loop-block-preserved : goal.loop-block-preserved
 loop-block-preserved g c =
-    one_more_set g.N.CidrNetwork.WIDTH c.args.table.now c.loop-block.table c.set_one.new.table c.args.value c.blocks_of-blocks.result c.loop-block.blocks c.next.new.self
+    one_more_set g.N.CidrNetwork.WIDTH c.args.table.now c.loop-block.table c.set_one.new.table c.args.value
+    c.blocks_of-blocks.result c.loop-block.blocks c.next.new.self
     (g.N.CidrNetwork.pair c.in-Some.block) c.loop-block.invariant c.in-Some.ensures.steps c.in_ok-set_one.ensures.ok.0
 
 pub returns-in_err-set_one-clause-err : goal.returns-in_err-set_one-clause-err
@@ -28,9 +25,13 @@ returns-clause-ok g c =
     let w = g.N.CidrNetwork.WIDTH in
     let refuses = c.refuses_range.ensures in
     let blocks = c.blocks_of-blocks.result in
-    let one = (c.ranges_are_shortest.ensures.range w (g.N.CidrNetwork.number c.args.first) (g.N.CidrNetwork.number c.args.last) blocks c.blocks_of-blocks.ensures.address c.blocks_of-blocks.ensures.blocks).one refuses.0 refuses.1 in (
+    let one = (c.ranges_are_shortest.ensures.range w (g.N.CidrNetwork.number c.args.first)
+    (g.N.CidrNetwork.number c.args.last) blocks c.blocks_of-blocks.ensures.address
+    c.blocks_of-blocks.ensures.blocks).one refuses.0 refuses.1 in (
       blocks,
       c.blocks_of-blocks.ensures.blocks,
-      subst (λ (l : List Network). (not c.args.last_wins && one_has w c.args.table.now l) ≡ false) one (sym refuses.2 ∙ c.if-refuses_range.false),
-      all_set w c.args.table.now c.loop-block.table c.args.value blocks c.loop-block.blocks c.loop-block.invariant c.in_default.ensures.steps.0,
+      subst (λ (l : List Network). (not c.args.last_wins && one_has w c.args.table.now l) ≡ false) one
+          (sym refuses.2 ∙ c.if-refuses_range.false),
+      all_set w c.args.table.now c.loop-block.table c.args.value blocks c.loop-block.blocks c.loop-block.invariant
+          c.in_default.ensures.steps.0,
     )

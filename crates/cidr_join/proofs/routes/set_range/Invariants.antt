@@ -1,5 +1,4 @@
-use Rattle.std.proofs.Common.{length}
-use Rattle.cidr_join.proofs.Taking.{Set}
+use Rattle.cidr_join.proofs.Known.{length, Set}
 use Rattle.cidr_join.proofs.routes.set_range.Given as goal
 
 abbrev pub invariant-loop-block : goal.invariant-loop-block

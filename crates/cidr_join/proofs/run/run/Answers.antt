@@ -1,19 +1,21 @@
-use Rattle.options.proofs.Runs.{done, not_done}
-use Rattle.cidr_join.specs.Runs.{DoesRequest}
-use Rattle.cidr_join.specs.declared.help.TheConstants.{PROGRAM, HELP, VERSION, USAGE}
+use Rattle.cidr_join.proofs.Known.{done, not_done, ending, DoesRequest, PROGRAM, HELP, VERSION}
 use Rattle.cidr_join.proofs.run.run.Goals as goal
 
 pub returns-in-Ok : goal.returns-in-Ok
-returns-in-Ok g c = (
-  c.table.result,
-  c.table.ensures,
-  done c.table.result PROGRAM.now HELP.now VERSION.now USAGE.now c.args.words.now _ (DoesRequest PROGRAM.now USAGE.now (g.L.OpenLists.known c.args.lists.now) _) _ c.in-Ok.ensures.asks
-      (rw (c.as_slice.ensures.value, c.in-Ok.ensures.silent.0, c.in-Ok.ensures.silent.1) at c.join.ensures),
-)
+returns-in-Ok g c =
+    let end = ending c.args.output.now c.join.new.output c.args.errors.now c.join.new.errors c.join.result in (
+      c.table.result,
+      c.table.ensures,
+      done c.table.result PROGRAM.now HELP.now VERSION.now c.args.words.now _
+          (DoesRequest (g.L.OpenLists.known c.args.lists.now) end) _ c.in-Ok.ensures.asks
+          (rw (c.as_slice.ensures.value, c.in-Ok.ensures.silent.0) at c.join.ensures),
+    )
 
 pub returns-in-Err : goal.returns-in-Err
-returns-in-Err g c = (
-  c.table.result,
-  c.table.ensures,
-  not_done c.table.result PROGRAM.now HELP.now VERSION.now USAGE.now c.args.words.now _ (DoesRequest PROGRAM.now USAGE.now (g.L.OpenLists.known c.args.lists.now) _) c.in-Err.ensures.ends,
-)
+returns-in-Err g c =
+    let end = ending c.args.output.now c.asked.new.output c.args.errors.now c.asked.new.errors c.in-Err.status in (
+      c.table.result,
+      c.table.ensures,
+      not_done c.table.result PROGRAM.now HELP.now VERSION.now c.args.words.now _
+          (DoesRequest (g.L.OpenLists.known c.args.lists.now) end) c.in-Err.ensures.ends,
+    )

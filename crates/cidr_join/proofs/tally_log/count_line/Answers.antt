@@ -1,12 +1,23 @@
-use Rattle.std.proofs.Common.{◌∙◌, refl, sym}
-use Rattle.cidr_join.proofs.Addressed.{refused_none}
+use Rattle.cidr_join.proofs.Known.{◌∙◌, [], sym, subst, Option, IpNetwork, counted_for, counted_in, CountsAll, here, line_gives, line_refused}
 use Rattle.cidr_join.proofs.tally_log.count_line.Goals as goal
 
 pub returns-then-refuses-clause-err : goal.returns-then-refuses-clause-err
 returns-then-refuses-clause-err c =
-    let none = refused_none c.args.join.now.bad c.network_in-asked.result (sym c.refuses.ensures ∙ c.if-refuses.true) in
-    (sym c.network_in-asked.ensures ∙ none.0, none.1, refl, refl)
+    line_refused c.args.join.now c.args.line.now [] c.requires.short c.network_in-asked.result
+    c.network_in-asked.ensures counted_in c.args.seen.now
+    (sym c.refuses.ensures ∙ c.if-refuses.true)
 
 pub returns-in-Ok-clause-ok : goal.returns-in-Ok-clause-ok
 returns-in-Ok-clause-ok c =
-    (rw c.network_in-asked.ensures at c.in-Ok.ensures, rw c.network_in-asked.ensures at (sym c.refuses.ensures ∙ c.if-refuses.false), rw (c.is_some.ensures, c.network_in-asked.ensures) at c.add.ensures)
+    let join = c.args.join.now in
+    let line = c.args.line.now in
+    let h = c.in-Ok.ensures in (
+      counted_in join h.0 line [],
+      line_gives join line [] c.requires.short c.network_in-asked.result c.network_in-asked.ensures counted_in
+          c.args.seen.now c.add.new.self h.0
+          (sym c.refuses.ensures ∙ c.if-refuses.false)
+          h.1 (rw c.is_some.ensures at c.add.ensures),
+      subst (λ (a : Option IpNetwork). CountsAll c.args.numbered.now.founds.items (counted_for join a h.0)
+          c.args.counts.now c.count_asked.new.counts)
+          (sym (here join line [] c.requires.short c.network_in-asked.result c.network_in-asked.ensures)) h.2,
+    )

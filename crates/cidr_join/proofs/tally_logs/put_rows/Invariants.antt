@@ -1,7 +1,4 @@
-use Rattle.std.proofs.Common.{◌≡◌, map, take}
-use Rattle.lines.specs.Outputs.{Prints}
-use Rattle.cidr_join.specs.Tallies.{rows_text}
-use Rattle.cidr_join.specs.Private.Counting.{row_of}
+use Rattle.cidr_join.proofs.Known.{◌≡◌, map, take, Prints, rows_text, row_of}
 use Rattle.cidr_join.proofs.tally_logs.put_rows.Given as goal
 
 abbrev pub invariant-loop-row : goal.invariant-loop-row

@@ -1,6 +1,4 @@
-use Rattle.std.proofs.Common.{length}
-use Rattle.cidr_merge.specs.Exports.{address_line}
-use Rattle.cidr_merge.proofs.Printed.{Printed}
+use Rattle.cidr_merge.proofs.Known.{length, address_line, Printed}
 use Rattle.cidr_merge.proofs.addresses.print_addresses.Given as goal
 
 abbrev pub invariant-loop-address : goal.invariant-loop-address

@@ -1,10 +1,4 @@
-use Rattle.std.proofs.Common.{◌∙◌, ℕ, List, ap, subst}
-use Rattle.std.specs.List.{flat_map}
-use Rattle.program.specs.Reported.{name_at}
-use Rattle.cidr_merge.specs.Findings.{findings_by, line_findings}
-use Rattle.cidr_merge.specs.NumberedLines.{said_by}
-use Rattle.cidr_merge.specs.Private.Reported.{TellsFound}
-use Rattle.cidr_merge.proofs.Found.{more_so_far}
+use Rattle.cidr_merge.proofs.Known.{◌∙◌, ℕ, List, ap, subst, flat_map, name_at, findings_by, line_findings, said_by, TellsFound, more_so_far}
 use Rattle.cidr_merge.proofs.checking.check_lists.Goals as goal
 
 pub loop-line-preserved : goal.loop-line-preserved

@@ -1,8 +1,4 @@
-use Rattle.std.proofs.Common.{◌≡◌, length, map}
-use Rattle.std.specs.List.{flat_map}
-use Rattle.cidr_merge.specs.Findings.{line_findings, lists_findings}
-use Rattle.cidr_merge.specs.Private.LinesLeft.{lines_left}
-use Rattle.cidr_merge.proofs.Found.{ToldSoFar}
+use Rattle.cidr_merge.proofs.Known.{◌≡◌, length, map, flat_map, line_findings, lists_findings, lines_left, ToldSoFar}
 use Rattle.cidr_merge.proofs.checking.check_lists.Given as goal
 
 abbrev pub invariant-loop-line : goal.invariant-loop-line

@@ -1,8 +1,4 @@
-use Rattle.std.proofs.Common.{◌∙◌, List, ap, arith, length, map, sym}
-use Rattle.std.specs.String.{string_bytes}
-use Rattle.std.proofs.lemmas.List.{length-append, length-map}
-use Rattle.cidr_merge.specs.Faults.{from_of}
-use Rattle.options.specs.declared.items.Item.{Item}
+use Rattle.cidr_merge.proofs.Known.{◌∙◌, List, ap, arith, length, map, sym, string_bytes, length-append, length-map, from_of, Item}
 use Rattle.cidr_merge.proofs.command_line.command_for.Goals as goal
 
 pub returns-clause-within : goal.returns-clause-within
@@ -16,6 +12,8 @@ returns-clause-within c =
     let new = length-map grown string_bytes in
     let all = ap length c.in_ok-append-2.ensures.items in
     let ends = length-append grown c.in_ok-second.second.items in
-    let same = ap (λ (items : List Item). length (froms items)) (c.as_slice-items.ensures.value ∙ sym c.as_slice-3.ensures.value) in
+    let same = ap (λ (items : List Item). length (froms items)) (c.as_slice-items.ensures.value
+    ∙ sym c.as_slice-3.ensures.value) in
     let middle = c.len-middle.ensures in
-    c.asked_for.ensures.within (length c.append-2.new.self.items) (omega (arith, more, some, old, new, all, ends, same, middle))
+    c.asked_for.ensures.within (length c.append-2.new.self.items)
+    (omega (arith, more, some, old, new, all, ends, same, middle))

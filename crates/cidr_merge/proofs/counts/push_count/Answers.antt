@@ -1,7 +1,4 @@
-use Rattle.std.proofs.Common.{◌≡◌, ◌++◌, decimal, sym, subst}
-use Rattle.std.specs.Fmt.{digits}
-use Rattle.ipnetwork_sets.specs.Counts.{count_number}
-use Rattle.ipnetwork_sets.specs.declared.address_count.AddressCount.{AddressCount}
+use Rattle.cidr_merge.proofs.Known.{◌≡◌, ◌++◌, decimal, sym, subst, digits, count_number, AddressCount}
 use Rattle.cidr_merge.proofs.counts.push_count.Goals as goal
 
 pub returns-in-AllOfIpv6 : goal.returns-in-AllOfIpv6

@@ -1,6 +1,4 @@
-use Rattle.std.proofs.Common.{length}
-use Rattle.cidr_merge.specs.Pieces.{network_line}
-use Rattle.cidr_merge.proofs.Printed.{Printed}
+use Rattle.cidr_merge.proofs.Known.{length, network_line, Printed}
 use Rattle.cidr_merge.proofs.cutting.print_block.Given as goal
 
 abbrev pub invariant-loop-piece : goal.invariant-loop-piece

@@ -1,6 +1,4 @@
-use Rattle.std.proofs.Common.{length}
-use Rattle.cidr_merge.specs.Pieces.{pieces_text}
-use Rattle.cidr_merge.proofs.Printed.{Printed}
+use Rattle.cidr_merge.proofs.Known.{length, pieces_text, Printed}
 use Rattle.cidr_merge.proofs.cutting.print_pieces.Given as goal
 
 abbrev pub invariant-loop-block : goal.invariant-loop-block

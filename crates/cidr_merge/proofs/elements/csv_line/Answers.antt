@@ -1,7 +1,4 @@
-use Rattle.std.proofs.Common.{◌++◌, ◌∷◌, [], ◌∙◌, ap, arith}
-use Rattle.ipnetwork_family.specs.Family.{text_of}
-use Rattle.ipnetwork_family.specs.Network.{low}
-use Rattle.cidr_merge.specs.Exports.{family_name}
+use Rattle.cidr_merge.proofs.Known.{◌++◌, ◌∷◌, [], ◌∙◌, ap, arith, text_of, low, family_name}
 use Rattle.cidr_merge.proofs.elements.csv_line.Goals as goal
 
 pub returns : goal.returns

@@ -1,4 +1,4 @@
-use Rattle.std.proofs.Common.{◌++◌, ◌∷◌, [], ◌∙◌, ap, arith, decimal, append_assoc}
+use Rattle.cidr_merge.proofs.Known.{◌++◌, ◌∷◌, [], ◌∙◌, ap, arith, decimal, append_assoc}
 use Rattle.cidr_merge.proofs.elements.push_network.Goals as goal
 
 pub returns-clause-bytes : goal.returns-clause-bytes

@@ -1,4 +1,4 @@
-use Rattle.std.proofs.lemmas.Bool.{ne_eqb}
+use Rattle.cidr_merge.proofs.Known.{ne_eqb}
 use Rattle.cidr_merge.proofs.elements.put_ipset.Goals as goal
 
 pub returns : goal.returns

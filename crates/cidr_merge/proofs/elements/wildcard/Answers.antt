@@ -1,6 +1,4 @@
-use Rattle.std.proofs.Common.{◌≡◌, ◌+◌, ◌-◌, ◌*◌, ◌^◌, ◌∙◌, ℕ, ap, arith}
-use Rattle.std.proofs.Math.Nat.{zero-div}
-use Rattle.ipnetwork_family.specs.Network.{block_size, mask_of, high}
+use Rattle.cidr_merge.proofs.Known.{◌≡◌, ◌+◌, ◌-◌, ◌*◌, ◌^◌, ◌∙◌, ℕ, ap, arith, zero-div, block_size, mask_of, high}
 use Rattle.cidr_merge.proofs.elements.wildcard.Goals as goal
 
 no_bits : (w a : ℕ) → a ≡ mask_of w 0 → a ≡ 0

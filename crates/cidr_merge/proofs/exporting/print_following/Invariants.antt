@@ -1,7 +1,4 @@
-use Rattle.std.proofs.Common.{length}
-use Rattle.cidr_merge.specs.Exports.{following}
-use Rattle.cidr_merge.specs.Private.Sweeps.{blocks_left}
-use Rattle.cidr_merge.proofs.Printed.{Printed}
+use Rattle.cidr_merge.proofs.Known.{length, following, blocks_left, Printed}
 use Rattle.cidr_merge.proofs.exporting.print_following.Given as goal
 
 abbrev pub invariant-loop-block : goal.invariant-loop-block

@@ -1,11 +1,10 @@
-use Rattle.std.proofs.Common.{◌≡◌, ◌≤◌, ◌-◌, length, drop}
-use Rattle.cidr_merge.specs.Faults.{items_fault}
+use Rattle.cidr_merge.proofs.Known.{◌≡◌, ◌≤◌, ◌-◌, length, drop, list_any, is_wrong}
 use Rattle.cidr_merge.proofs.faults.items_fault.Given as goal
 
 abbrev pub invariant-loop-at : goal.invariant-loop-at
 invariant-loop-at l = record {
   within : l.at ≤ length l.items;
-  same : items_fault l.rows l.task (drop l.at l.items) ≡ items_fault l.rows l.task l.items;
+  same : list_any (is_wrong l.task) (drop l.at l.items) ≡ list_any (is_wrong l.task) l.items;
 }
 
 abbrev pub decreases-loop-at : goal.decreases-loop-at

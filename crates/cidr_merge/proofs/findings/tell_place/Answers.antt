@@ -1,4 +1,4 @@
-use Rattle.program.proofs.Reported.{tells_on}
+use Rattle.cidr_merge.proofs.Known.{tells_on}
 use Rattle.cidr_merge.proofs.findings.tell_place.Goals as goal
 
 pub returns : goal.returns

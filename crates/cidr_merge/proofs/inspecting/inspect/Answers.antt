@@ -1,5 +1,4 @@
-use Rattle.std.proofs.Common.{inr, map}
-use Rattle.cidr_merge.proofs.WholeLists.{as_many_held}
+use Rattle.cidr_merge.proofs.Known.{inr, map, as_many_held}
 use Rattle.cidr_merge.proofs.inspecting.inspect.Goals as goal
 
 pub look_over-requires : goal.look_over-requires

@@ -1,6 +1,4 @@
-use Rattle.std.proofs.Common.{◌≡◌, ◌≤◌, ◌-◌, ◌++◌, drop, length, map}
-use Rattle.std.specs.String.{string_bytes}
-use Rattle.cidr_merge.specs.NamedLists.{lists_of}
+use Rattle.cidr_merge.proofs.Known.{◌≡◌, ◌≤◌, ◌-◌, ◌++◌, drop, length, map, string_bytes, lists_of}
 use Rattle.cidr_merge.proofs.named_lists.lists_of.Given as goal
 
 abbrev pub invariant-loop-at : goal.invariant-loop-at

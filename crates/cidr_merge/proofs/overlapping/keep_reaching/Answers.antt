@@ -1,10 +1,4 @@
-use Rattle.std.proofs.Common.{◌+◌, ◌<◌, ◌≡◌, ◌∙◌, ℕ, length, arith, ap, get_or, refl, subst, sym}
-use Rattle.std.proofs.Common.{take, drop, filter}
-use Rattle.std.proofs.lemmas.List.{get_or_default}
-use Rattle.std.proofs.lemmas.List.Filters.{FiltersInPlace-more_swap, FiltersInPlace-more_no}
-use Rattle.cidr_merge.specs.Private.Entries.{overlaps}
-use Rattle.cidr_merge.specs.declared.placed.Placed.{Placed}
-use Rattle.cidr_merge.proofs.KeptEntries.{as_it_was, swapped_rest, same_further}
+use Rattle.cidr_merge.proofs.Known.{◌+◌, ◌<◌, ◌≡◌, ◌∙◌, ℕ, length, arith, ap, get_or, refl, subst, sym, take, drop, filter, get_or_default, FiltersInPlace-more_swap, FiltersInPlace-more_no, overlaps, Placed, as_it_was, swapped_rest, same_further}
 use Rattle.cidr_merge.proofs.overlapping.keep_reaching.Goals.{then-overlaps, else-overlaps}
 use Rattle.cidr_merge.proofs.overlapping.keep_reaching.Goals as goal
 

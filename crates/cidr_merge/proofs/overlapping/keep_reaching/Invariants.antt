@@ -1,7 +1,4 @@
-use Rattle.std.proofs.Common.{◌≡◌, ◌≤◌, length, drop, get_or}
-use Rattle.std.proofs.lemmas.List.Filters.{FiltersInPlace}
-use Rattle.cidr_merge.specs.Private.Entries.{overlaps}
-use Rattle.cidr_merge.specs.declared.placed.Placed.{Placed}
+use Rattle.cidr_merge.proofs.Known.{◌≡◌, ◌≤◌, length, drop, get_or, FiltersInPlace, overlaps, Placed}
 use Rattle.cidr_merge.proofs.overlapping.keep_reaching.Given as goal
 
 abbrev pub invariant-loop-index : goal.invariant-loop-index

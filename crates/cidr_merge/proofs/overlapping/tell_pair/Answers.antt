@@ -1,6 +1,4 @@
-use Rattle.std.proofs.Common.{ℕ, List, ap}
-use Rattle.program.proofs.Reported.{tells_on, tells_same}
-use Rattle.cidr_merge.specs.Findings.{place_text}
+use Rattle.cidr_merge.proofs.Known.{ℕ, List, ap, tells_on, tells_same, place_text}
 use Rattle.cidr_merge.proofs.overlapping.tell_pair.Goals as goal
 
 pub returns : goal.returns

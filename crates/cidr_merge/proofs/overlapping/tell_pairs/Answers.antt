@@ -1,4 +1,4 @@
-use Rattle.cidr_merge.proofs.OverlapPairs.{pairs_next}
+use Rattle.cidr_merge.proofs.Known.{pairs_next}
 use Rattle.cidr_merge.proofs.overlapping.tell_pairs.Goals as goal
 
 pub loop-place-preserved : goal.loop-place-preserved

@@ -1,7 +1,4 @@
-use Rattle.std.proofs.Common.{take}
-use Rattle.cidr_merge.specs.Private.Entries.{overlaps}
-use Rattle.cidr_merge.proofs.KeptEntries.{Swept}
-use Rattle.cidr_merge.proofs.OverlapPairs.{PairsTold}
+use Rattle.cidr_merge.proofs.Known.{take, overlaps, Swept, PairsTold}
 use Rattle.cidr_merge.proofs.overlapping.tell_pairs.Given as goal
 
 abbrev pub invariant-loop-place : goal.invariant-loop-place

@@ -1,4 +1,4 @@
-use Rattle.cidr_merge.proofs.OverlapPairs.{pairs_with_next}
+use Rattle.cidr_merge.proofs.Known.{pairs_with_next}
 use Rattle.cidr_merge.proofs.overlapping.tell_with.Goals as goal
 
 pub loop-index-preserved : goal.loop-index-preserved

@@ -1,8 +1,4 @@
-use Rattle.std.proofs.Common.{map, take}
-use Rattle.std.specs.List.{concat}
-use Rattle.program.specs.Messages.{Reports}
-use Rattle.cidr_merge.specs.Overlaps.{pair_text}
-use Rattle.cidr_merge.specs.Private.Entries.{listed_as}
+use Rattle.cidr_merge.proofs.Known.{map, take, concat, Reports, pair_text, listed_as}
 use Rattle.cidr_merge.proofs.overlapping.tell_with.Given as goal
 
 abbrev pub invariant-loop-index : goal.invariant-loop-index

@@ -1,10 +1,4 @@
-use Rattle.std.proofs.Common.{◌∙◌, ◌++◌, map, sym, ap, subst, append-nil}
-use Rattle.std.specs.List.{flat_map}
-use Rattle.std.specs.List.Sorted.{IsPermutation}
-use Rattle.std.proofs.lemmas.List.Sorted.{IsPermutation-map}
-use Rattle.cidr_merge.specs.Overlaps.{line_entries}
-use Rattle.cidr_merge.specs.Private.Entries.{listed_as}
-use Rattle.cidr_merge.proofs.ListedOrder.{sorted_as}
+use Rattle.cidr_merge.proofs.Known.{◌∙◌, ◌++◌, map, sym, ap, subst, append-nil, flat_map, IsPermutation, IsPermutation-map, line_entries, listed_as, sorted_as}
 use Rattle.cidr_merge.proofs.placed.entries_of.Goals as goal
 
 pub returns : goal.returns

@@ -1,8 +1,4 @@
-use Rattle.std.proofs.Common.{◌≡◌, ◌++◌, length, map}
-use Rattle.std.specs.List.{flat_map}
-use Rattle.cidr_merge.specs.Overlaps.{line_entries, lists_entries}
-use Rattle.cidr_merge.specs.Private.Entries.{listed_as}
-use Rattle.cidr_merge.specs.Private.LinesLeft.{lines_left}
+use Rattle.cidr_merge.proofs.Known.{◌≡◌, ◌++◌, length, map, flat_map, line_entries, lists_entries, listed_as, lines_left}
 use Rattle.cidr_merge.proofs.placed.entries_of.Given as goal
 
 abbrev pub invariant-loop-line : goal.invariant-loop-line

@@ -1,29 +1,51 @@
-use Rattle.cidr_merge.specs.Answers.{sign_of, AreCountsLeft, AreCounts}
-use Rattle.cidr_merge.specs.declared.merge_join.Side.TheVariants.{First, Second}
-use Rattle.cidr_merge.proofs.Putting.{then_ok, counts_of_one, counts_of_both}
+use Rattle.cidr_merge.proofs.Known.{rules, ◌++◌, count_line, sign_of, First, Second, fails_first, puts_two, count_lines, counts_of_both, counts_of_one}
+use Rattle.std.proofs.Common.{codes}
 use Rattle.cidr_merge.proofs.printing.print_counts.Goals as goal
 
-pub returns-in-Differ-clause-text : goal.returns-in-Differ-clause-text
-returns-in-Differ-clause-text g c =
-    let output = c.args.output.now in
-    let between = c.print_counts_left.new.output in
-    let after = c.print_counts_left-in-Differ.new.output in
-    let operation = c.args.merging.now.request.operation in
-    let first = c.args.merging.now.first.now in
-    let second = c.args.merging.now.second.now in
-    then_ok c.print_counts_left-in-Differ.result (AreCountsLeft operation
-    (sign_of operation First) first second) (AreCountsLeft operation
-    (sign_of operation Second) second first)
-    (AreCounts operation first second) output.holds between.holds after.holds output.waits
-    between.waits after.waits
-    (counts_of_both operation c.in-Differ.is first second) c.in_ok-print_counts_left.ensures.text
-    c.print_counts_left-in-Differ.ensures.text
-
-pub returns-in_default-clause-text : goal.returns-in_default-clause-text
-returns-in_default-clause-text g c =
+pub returns-in_err-put_counts-in-Differ : goal.returns-in_err-put_counts-in-Differ
+returns-in_err-put_counts-in-Differ g c =
     let m = c.args.merging.now in
-    let h = c.in_ok-print_counts_left.ensures.text in (
-      h.0,
-      counts_of_one m.request.operation c.in_default.not-Differ m.first.now m.second.now h.0 h.1,
-      h.2,
+    let operation = m.request.operation in
+    let one = count_line (sign_of operation First ++ codes "v4 ") c.counts_of-firsts.result.0.bytes
+    ++ count_line (sign_of operation First ++ codes "v6 ") c.counts_of-firsts.result.1.bytes in
+    let other = count_line (sign_of operation Second ++ codes "v4 ") c.counts_of-seconds.result.0.bytes
+    ++ count_line (sign_of operation Second ++ codes "v6 ") c.counts_of-seconds.result.1.bytes in (
+      one ++ other,
+      counts_of_both operation c.in-Differ.is m.first.now m.second.now one other
+          (count_lines (sign_of operation First) _ _ _ _ c.counts_of-firsts.ensures.v4 c.counts_of-firsts.ensures.v6)
+          (count_lines (sign_of operation Second) _ _ _ _ c.counts_of-seconds.ensures.v4
+          c.counts_of-seconds.ensures.v6),
+      fails_first _ c.args.output.now c.put_counts.new.output one other (search rules)
+          c.in_err-put_counts-in-Differ.ensures.failed
+          (rw c.sign_of-sign.ensures at c.in_err-put_counts-in-Differ.ensures.beginning),
+    )
+
+pub returns-in_ok-put_counts-in-Differ : goal.returns-in_ok-put_counts-in-Differ
+returns-in_ok-put_counts-in-Differ g c =
+    let m = c.args.merging.now in
+    let operation = m.request.operation in
+    let one = count_line (sign_of operation First ++ codes "v4 ") c.counts_of-firsts.result.0.bytes
+    ++ count_line (sign_of operation First ++ codes "v6 ") c.counts_of-firsts.result.1.bytes in
+    let other = count_line (sign_of operation Second ++ codes "v4 ") c.counts_of-seconds.result.0.bytes
+    ++ count_line (sign_of operation Second ++ codes "v6 ") c.counts_of-seconds.result.1.bytes in (
+      one ++ other,
+      counts_of_both operation c.in-Differ.is m.first.now m.second.now one other
+          (count_lines (sign_of operation First) _ _ _ _ c.counts_of-firsts.ensures.v4 c.counts_of-firsts.ensures.v6)
+          (count_lines (sign_of operation Second) _ _ _ _ c.counts_of-seconds.ensures.v4
+          c.counts_of-seconds.ensures.v6),
+      puts_two c.put_counts-in-Differ.result c.args.output.now c.put_counts.new.output c.put_counts-in-Differ.new.output
+          one other (rw c.sign_of-sign.ensures at c.in_ok-put_counts-in-Differ.ensures.ok)
+          c.in_ok-put_counts-in-Differ.ensures.failed (rw c.sign_of.ensures at c.put_counts-in-Differ.ensures),
+    )
+
+pub returns-in_default : goal.returns-in_default
+returns-in_default g c =
+    let m = c.args.merging.now in
+    let operation = m.request.operation in
+    let one = count_line (sign_of operation First ++ codes "v4 ") c.counts_of-firsts.result.0.bytes
+    ++ count_line (sign_of operation First ++ codes "v6 ") c.counts_of-firsts.result.1.bytes in (
+      one,
+      counts_of_one operation c.in_default.not-Differ m.first.now m.second.now one
+          (count_lines (sign_of operation First) _ _ _ _ c.counts_of-firsts.ensures.v4 c.counts_of-firsts.ensures.v6),
+      rw c.sign_of-sign.ensures at c.put_counts-in_default.ensures,
     )

@@ -1,7 +1,4 @@
-use Rattle.std.proofs.Common.{length}
-use Rattle.cidr_merge.specs.Answers.{merged_by}
-use Rattle.cidr_merge.specs.Private.Sweeps.{with_head}
-use Rattle.cidr_merge.proofs.Printed.{Printed}
+use Rattle.cidr_merge.proofs.Known.{length, merged_by, with_head, Printed}
 use Rattle.cidr_merge.proofs.printing.print_parts.Given as goal
 
 abbrev pub invariant-loop-next : goal.invariant-loop-next

@@ -1,14 +1,10 @@
-use Rattle.std.proofs.Common.{◌+◌, ◌∙◌, arith, subst, sym, take}
-use Rattle.cidr_merge.specs.FindWords.{AreAddresses}
-use Rattle.cidr_merge.proofs.SoughtWords.{addresses_on, first_wrong}
+use Rattle.cidr_merge.proofs.Known.{◌+◌, ◌∙◌, arith, subst, sym, take, AreAddresses, addresses_on, wrong_word}
 use Rattle.cidr_merge.proofs.query.addresses_of.Goals as goal
 
 pub returns-in_default-clause-err : goal.returns-in_default-clause-err
 returns-in_default-clause-err c =
-    first_wrong c.args.first c.args.words.now c.loop-place.addresses.items c.loop-place.place
-    c.index-words-place.result c.as_bytes.result.now (omega arith) c.index-words-place.is
-    (c.as_bytes.ensures.value
-    ∙ c.as_str.ensures.value) c.loop-place.invariant c.in_default.ensures.1
+    wrong_word c.args.words.now c.loop-place.place c.index-words-place.result c.as_bytes.result.now (omega arith)
+    c.index-words-place.is (c.as_bytes.ensures.value ∙ c.as_str.ensures.value) c.in_default.ensures.1
 
 pub loop-place-preserved : goal.loop-place-preserved
 loop-place-preserved c =

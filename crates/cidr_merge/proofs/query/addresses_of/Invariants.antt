@@ -1,5 +1,4 @@
-use Rattle.std.proofs.Common.{take}
-use Rattle.cidr_merge.specs.FindWords.{AreAddresses}
+use Rattle.cidr_merge.proofs.Known.{take, AreAddresses}
 use Rattle.cidr_merge.proofs.query.addresses_of.Given as goal
 
 abbrev pub invariant-loop-place : goal.invariant-loop-place

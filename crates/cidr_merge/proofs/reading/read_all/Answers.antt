@@ -1,8 +1,4 @@
-use Rattle.std.proofs.Common.{◌+◌, ℕ, List, subst, arith}
-use Rattle.std.proofs.lemmas.Result.{err_from_is_err_and}
-use Rattle.cidr_merge.specs.Shapes.{source, ReadsOne, StopsOne}
-use Rattle.cidr_merge.proofs.ReadInTurn.{reads_on}
-use Rattle.cidr_merge.proofs.Stopping.{stops_in}
+use Rattle.cidr_merge.proofs.Known.{◌+◌, ℕ, List, subst, arith, err_from_is_err_and, source, ReadsOne, StopsOne, reads_on, stops_in}
 use Rattle.cidr_merge.proofs.reading.read_all.Goals as goal
 
 pub loop-place-preserved : goal.loop-place-preserved

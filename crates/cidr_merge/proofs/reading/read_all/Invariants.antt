@@ -1,6 +1,4 @@
-use Rattle.std.proofs.Common.{◌≡◌, false, take}
-use Rattle.cidr_merge.specs.Shapes.{source}
-use Rattle.cidr_merge.specs.Reading.{ReadsLists}
+use Rattle.cidr_merge.proofs.Known.{◌≡◌, false, take, source, ReadsLists}
 use Rattle.cidr_merge.proofs.reading.read_all.Given as goal
 
 abbrev pub invariant-loop-place : goal.invariant-loop-place

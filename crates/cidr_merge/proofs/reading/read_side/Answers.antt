@@ -1,6 +1,4 @@
-use Rattle.cidr_merge.specs.Shapes.{source}
-use Rattle.cidr_merge.proofs.ReadInTurn.{side_ok}
-use Rattle.cidr_merge.proofs.Stopping.{side_stopped}
+use Rattle.cidr_merge.proofs.Known.{source, side_ok, side_stopped}
 use Rattle.cidr_merge.proofs.reading.read_side.Goals as goal
 
 pub returns-clause-read : goal.returns-clause-read
@@ -16,6 +14,4 @@ pub returns-clause-stopped : goal.returns-clause-stopped
 returns-clause-stopped g c =
     side_stopped c.read_all-end.result (source
     (g.L.OpenLists.known c.args.context.now.lists.now) c.args.shape) c.args.first
-    c.args.names.now c.args.refusals _
-    c.new-reader.result c.read_all-end.new.reader c.new-reader.ensures
-    c.read_all-end.ensures.stopped c.into_sets-v4.ensures.refused
+    c.args.names.now c.args.refusals c.new-reader.result c.new-reader.ensures c.read_all-end.ensures.stopped

@@ -1,5 +1,4 @@
-use Rattle.std.proofs.Common.{arith, inr}
-use Rattle.std.proofs.lemmas.List.{length-map}
+use Rattle.cidr_merge.proofs.Known.{arith, inr, length-map}
 use Rattle.cidr_merge.proofs.reduce.print_reduced.Goals as goal
 
 pub returns : goal.returns
@@ -8,8 +7,6 @@ returns g c =
     let long6 = length-map c.args.reduced.second.items (λ network. network) in
     inr (
       omega (arith, long, long6),
-      c.tell_others.new.errors,
-      c.tell_others.ensures,
       record { v4 = c.from_networks.result; v6 = c.from_networks-2.result },
       c.from_networks.ensures,
       c.from_networks-2.ensures,

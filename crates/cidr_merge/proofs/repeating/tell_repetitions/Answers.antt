@@ -1,8 +1,4 @@
-use Rattle.std.proofs.Common.{map, ap, sym}
-use Rattle.cidr_merge.specs.Private.Entries.{listed_as}
-use Rattle.cidr_merge.specs.Repetitions.{repetitions}
-use Rattle.cidr_merge.proofs.Found.{none_so_far}
-use Rattle.cidr_merge.proofs.RepeatedEntries.{repetitions_told_more}
+use Rattle.cidr_merge.proofs.Known.{map, ap, sym, listed_as, repetitions, none_so_far, repetitions_told_more}
 use Rattle.cidr_merge.proofs.repeating.tell_repetitions.Goals as goal
 
 pub loop-place-init : goal.loop-place-init

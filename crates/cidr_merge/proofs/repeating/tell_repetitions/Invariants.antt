@@ -1,8 +1,4 @@
-use Rattle.std.proofs.Common.{map, drop}
-use Rattle.cidr_merge.specs.Private.Entries.{listed_as}
-use Rattle.cidr_merge.specs.Repetitions.{repetitions}
-use Rattle.cidr_merge.proofs.Found.{ToldSoFar}
-use Rattle.cidr_merge.proofs.RepeatedEntries.{left_of}
+use Rattle.cidr_merge.proofs.Known.{map, drop, listed_as, repetitions, ToldSoFar, left_of}
 use Rattle.cidr_merge.proofs.repeating.tell_repetitions.Given as goal
 
 abbrev pub invariant-loop-place : goal.invariant-loop-place

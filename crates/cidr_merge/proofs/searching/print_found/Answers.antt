@@ -1,12 +1,4 @@
-use Rattle.std.proofs.Common.{◌∙◌, ◌+◌, ◌++◌, ap, arith, drop, get_or, length, sym}
-use Rattle.std.specs.List.{flat_map}
-use Rattle.std.proofs.Math.Seq.{drop-length}
-use Rattle.std.proofs.lemmas.List.{at_drop_more}
-use Rattle.cidr_merge.specs.Finds.{match_lines}
-use Rattle.cidr_merge.specs.Private.LinesLeft.{sought_as}
-use Rattle.cidr_merge.specs.declared.sought.Sought.{Sought}
-use Rattle.cidr_merge.proofs.Found.{all_told, more_so_far, none_so_far}
-use Rattle.cidr_merge.proofs.Passed.{before_more, not_sooner, of_map, passed_over, skipped, unmatched}
+use Rattle.cidr_merge.proofs.Known.{◌∙◌, ◌+◌, ◌++◌, ap, arith, drop, get_or, length, sym, flat_map, drop-length, at_drop_more, match_lines, sought_as, Sought, all_told, more_so_far, none_so_far, before_more, not_sooner, of_map, passed_over, skipped, unmatched}
 use Rattle.cidr_merge.proofs.searching.print_found.Goals as goal
 
 pub loop-at-init : goal.loop-at-init

@@ -1,8 +1,4 @@
-use Rattle.std.proofs.Common.{Bool, true, false, [], ◌∷◌, ◌∙◌, sym, subst}
-use Rattle.std.specs.Prelude.{if◌then◌else◌}
-use Rattle.cidr_merge.specs.Finds.{has_text}
-use Rattle.cidr_merge.specs.Private.Reported.{TellsFound}
-use Rattle.cidr_merge.proofs.Found.{tells_none, tells_one}
+use Rattle.cidr_merge.proofs.Known.{Bool, true, false, [], ◌∷◌, ◌∙◌, sym, subst, if◌then◌else◌, has_text, TellsFound, tells_none, tells_one}
 use Rattle.cidr_merge.proofs.searching.print_match.Goals as goal
 
 pub returns-then-has_address : goal.returns-then-has_address

@@ -1,12 +1,5 @@
-use Rattle.std.proofs.Common.{◌≡◌, ℕ, List, true, false, refl, sym, subst}
-use Rattle.std.specs.Prelude.{Result, Ok, Err, IfErr}
-use Rattle.lists.specs.Documents.{StopsAtDocument}
-use Rattle.lists.specs.KnownLists.{KnownLists}
-use Rattle.lists.specs.Lists.{ReadLists}
-use Rattle.lists.specs.declared.named.ReadFault.{ReadFault}
-use Rattle.cidr_merge.specs.Shapes.{StopsBy}
-use Rattle.cidr_merge.specs.declared.shapes.Shape.{Shape}
-use Rattle.cidr_merge.specs.declared.shapes.Shape.TheVariants.{Json, StrictJson}
+use Rattle.cidr_merge.proofs.Known.{◌≡◌, ℕ, List, true, false, refl, sym, subst, Result, Ok, Err, IfErr, StopsAtDocument, KnownLists, ReadLists, ReadFault, StopsBy, Shape, StrictJson}
+use Rattle.cidr_merge.specs.declared.shapes.Shape.TheVariants.{Json}
 use Rattle.cidr_merge.proofs.shapes.read_file.Goals as goal
 
 -- the reader has the refused lines

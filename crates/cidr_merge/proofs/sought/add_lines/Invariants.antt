@@ -1,7 +1,4 @@
-use Rattle.std.proofs.Common.{◌≡◌, ◌++◌, length, map}
-use Rattle.std.specs.List.{flat_map}
-use Rattle.cidr_merge.specs.Private.LinesLeft.{lines_left, sought_as}
-use Rattle.cidr_merge.specs.SoughtLines.{line_sought, lists_sought}
+use Rattle.cidr_merge.proofs.Known.{◌≡◌, ◌++◌, length, map, flat_map, lines_left, sought_as, line_sought, lists_sought}
 use Rattle.cidr_merge.proofs.sought.add_lines.Given as goal
 
 abbrev pub invariant-loop-line : goal.invariant-loop-line

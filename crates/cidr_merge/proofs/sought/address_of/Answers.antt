@@ -1,6 +1,4 @@
-use Rattle.std.specs.Prelude.{Ok, Err}
-use Rattle.ipnetwork_addr.specs.Computed.Either.{ip_of}
-use Rattle.cidr_merge.proofs.Passed.{read_as}
+use Rattle.cidr_merge.proofs.Known.{Ok, Err, ip_of, read_as}
 use Rattle.cidr_merge.proofs.sought.address_of.Goals as goal
 
 pub returns-in-Ok : goal.returns-in-Ok

@@ -1,6 +1,4 @@
-use Rattle.std.proofs.Common.{◌≡◌, ◌++◌, drop, map}
-use Rattle.cidr_merge.specs.FindWords.{with_addresses}
-use Rattle.cidr_merge.specs.Private.LinesLeft.{sought_as}
+use Rattle.cidr_merge.proofs.Known.{◌≡◌, ◌++◌, drop, map, with_addresses, sought_as}
 use Rattle.cidr_merge.proofs.sought.sought_in_words.Given as goal
 
 abbrev pub invariant-loop-place : goal.invariant-loop-place

@@ -1,9 +1,4 @@
-use Rattle.std.proofs.Common.{◌/◌, ◌≤◌, ◌^◌, ℕ, of_calls, rules, subst, sym}
-use Rattle.std.specs.Prelude.{nat_lt}
-use Rattle.std.proofs.lemmas.List.{take_rest}
-use Rattle.std.proofs.lemmas.List.Sorted.{IsPartitionPoint-from_clause}
-use Rattle.cidr_merge.specs.Private.SoughtPlaces.{ArePartOf}
-use Rattle.cidr_merge.proofs.Passed.{behind, parted}
+use Rattle.cidr_merge.proofs.Known.{◌/◌, ◌≤◌, ◌^◌, ℕ, of_calls, rules, subst, sym, nat_lt, take_rest, IsPartitionPoint-from_clause, ArePartOf, behind, parted}
 use Rattle.cidr_merge.proofs.sought_places.from_number.Goals as goal
 
 pub returns-clause-part : goal.returns-clause-part

@@ -1,4 +1,4 @@
-use Rattle.cidr_merge.proofs.Passed.{ArePlacesUpTo}
+use Rattle.cidr_merge.proofs.Known.{ArePlacesUpTo}
 use Rattle.cidr_merge.proofs.sought_places.places_of.Given as goal
 
 abbrev pub invariant-loop-place : goal.invariant-loop-place

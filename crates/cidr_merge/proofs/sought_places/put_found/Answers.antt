@@ -1,8 +1,4 @@
-use Rattle.std.proofs.Common.{◌≡◌, ◌++◌, ◌∙◌, ℕ, ap, arith, drop, length, length-take, map, subst, sym, take}
-use Rattle.std.proofs.Math.Seq.{take-append_seam, take-length}
-use Rattle.ipnetwork_addr.specs.declared.ip.IpAddr.{IpAddr}
-use Rattle.cidr_merge.specs.Private.SoughtPlaces.{AreFound, is_v6, number_of}
-use Rattle.cidr_merge.proofs.Passed.{are_found}
+use Rattle.cidr_merge.proofs.Known.{◌≡◌, ◌++◌, ◌∙◌, ℕ, ap, arith, drop, length, length-take, map, subst, sym, take, take-append_seam, take-length, IpAddr, AreFound, is_v6, number_of, are_found}
 use Rattle.cidr_merge.proofs.sought_places.put_found.Goals as goal
 
 pub returns-clause-found : goal.returns-clause-found

@@ -1,4 +1,4 @@
-use Rattle.std.proofs.Common.{◌≡◌, ℕ, map, take}
+use Rattle.cidr_merge.proofs.Known.{◌≡◌, ℕ, map, take}
 use Rattle.cidr_merge.proofs.sought_places.put_found.Given as goal
 
 abbrev pub invariant-loop-at : goal.invariant-loop-at

@@ -1,4 +1,4 @@
-use Rattle.std.proofs.Common.{◌≤◌, ◌-◌, length}
+use Rattle.cidr_merge.proofs.Known.{◌≤◌, ◌-◌, length}
 use Rattle.cidr_merge.proofs.sought_places.up_to.Given as goal
 
 abbrev pub invariant-loop-count : goal.invariant-loop-count

@@ -1,5 +1,4 @@
-use Rattle.std.proofs.Common.{◌≡◌, ◌≤◌, ◌-◌, ◌++◌, take, length, map}
-use Rattle.std.specs.String.{string_bytes}
+use Rattle.cidr_merge.proofs.Known.{◌≡◌, ◌≤◌, ◌-◌, ◌++◌, take, length, map, string_bytes}
 use Rattle.cidr_merge.proofs.spelling.add_words.Given as goal
 
 abbrev pub invariant-loop-at : goal.invariant-loop-at

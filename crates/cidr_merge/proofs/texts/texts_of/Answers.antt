@@ -1,8 +1,4 @@
-use Rattle.std.proofs.Common.{◌+◌, List, ℕ, arith, map, refl, subst, sym, take}
-use Rattle.std.specs.String.{string_bytes}
-use Rattle.lists.specs.declared.named.ReadFault.TheVariants.{OutOfMemory}
-use Rattle.cidr_merge.specs.Texts.{AreTexts, TextStops}
-use Rattle.cidr_merge.proofs.WholeLists.{no_memory, text_more, texts_stop}
+use Rattle.cidr_merge.proofs.Known.{◌+◌, List, ℕ, arith, map, subst, sym, take, string_bytes, OutOfMemory, AreTexts, TextStops, no_memory, text_more, texts_stop}
 use Rattle.cidr_merge.proofs.texts.texts_of.Goals as goal
 
 pub loop-place-preserved : goal.loop-place-preserved
@@ -20,17 +16,14 @@ loop-place-preserved g c =
 pub returns-in-Err-clause-err : goal.returns-in-Err-clause-err
 returns-in-Err-clause-err g c =
     let known = g.L.OpenLists.known c.args.context.now.lists.now in
-    let at = c.args.first + c.loop-place.place in
-    texts_stop known c.args.first c.loop-place.place at c.args.names.now
-    c.index-names-place.result _ c.in-Err.fault
-    (omega arith) c.index-names-place.is c.loop-place.invariant refl
-    (subst (λ (n : List ℕ). TextStops known at n c.in-Err.fault) c.as_str.ensures.value
+    texts_stop known c.loop-place.place c.args.names.now c.index-names-place.result _ c.in-Err.fault
+    (omega arith) c.index-names-place.is c.loop-place.invariant
+    (subst (λ (n : List ℕ). TextStops known n c.in-Err.fault) c.as_str.ensures.value
     c.in-Err.ensures.err)
 
 pub returns-in_default-clause-err : goal.returns-in_default-clause-err
 returns-in_default-clause-err g c =
     let known = g.L.OpenLists.known c.args.context.now.lists.now in
-    let at = c.args.first + c.loop-place.place in
-    texts_stop known c.args.first c.loop-place.place at c.args.names.now c.index-names-place.result _ OutOfMemory
-    (omega arith) c.index-names-place.is c.loop-place.invariant refl
-    (no_memory known at (string_bytes c.index-names-place.result))
+    texts_stop known c.loop-place.place c.args.names.now c.index-names-place.result _ OutOfMemory
+    (omega arith) c.index-names-place.is c.loop-place.invariant
+    (no_memory known (string_bytes c.index-names-place.result))

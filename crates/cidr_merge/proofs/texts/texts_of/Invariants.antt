@@ -1,5 +1,4 @@
-use Rattle.std.proofs.Common.{map, take}
-use Rattle.cidr_merge.specs.Texts.{AreTexts}
+use Rattle.cidr_merge.proofs.Known.{map, take, AreTexts}
 use Rattle.cidr_merge.proofs.texts.texts_of.Given as goal
 
 abbrev pub invariant-loop-place : goal.invariant-loop-place

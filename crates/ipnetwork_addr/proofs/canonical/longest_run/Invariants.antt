@@ -1,4 +1,4 @@
-use Rattle.ipnetwork_addr.proofs.ZeroScan.{Scanned}
+use Rattle.ipnetwork_addr.proofs.Known.{Scanned}
 use Rattle.ipnetwork_addr.proofs.canonical.longest_run.Given as goal
 
 abbrev pub invariant-loop-position : goal.invariant-loop-position

@@ -1,7 +1,4 @@
-use Rattle.std.proofs.Common.{ap}
-use Rattle.std.specs.Option.{option_copied}
-use Rattle.ipnetwork_addr.proofs.Ipv4Lemmas.{is_nil, not_nil}
-use Rattle.ipnetwork_addr.proofs.Gaps.{right_empty, right_part, no_right_gap, no_right_part}
+use Rattle.ipnetwork_addr.proofs.Known.{ap, option_copied, is_nil, not_nil, right_empty, right_part, no_right_gap, no_right_part}
 use Rattle.ipnetwork_addr.proofs.colons.read_right.Goals as goal
 
 pub returns-then-is_empty : goal.returns-then-is_empty
@@ -15,4 +12,5 @@ returns-in-Some c = no_right_gap _ _ _ _ _ _ c.in_ok-number.ensures (ap (λ o. o
 
 pub returns-in_err-number : goal.returns-in_err-number
 returns-in_err-number c =
-    rw c.from_residual.ensures (no_right_part _ _ c.in_err-number.ensures (not_nil _ _ c.is_empty.ensures c.if-is_empty.false))
+    rw c.from_residual.ensures (no_right_part _ _ c.in_err-number.ensures
+    (not_nil _ _ c.is_empty.ensures c.if-is_empty.false))

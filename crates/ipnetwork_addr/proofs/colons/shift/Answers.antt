@@ -1,4 +1,4 @@
-use Rattle.ipnetwork_addr.proofs.Shifts.{shifted}
+use Rattle.ipnetwork_addr.proofs.Known.{shifted}
 use Rattle.ipnetwork_addr.proofs.colons.shift.Goals as goal
 
 pub returns : goal.returns

@@ -1,5 +1,4 @@
-use Rattle.std.proofs.Common.{drop}
-use Rattle.ipnetwork_addr.proofs.PartSteps.{PartSoFar}
+use Rattle.ipnetwork_addr.proofs.Known.{drop, PartSoFar}
 use Rattle.ipnetwork_addr.proofs.colons_at_once.read_part.Given as goal
 
 abbrev pub invariant-loop-count : goal.invariant-loop-count

@@ -1,4 +1,4 @@
-use Rattle.ipnetwork_addr.proofs.WideDecimals.{CountsDigits}
+use Rattle.ipnetwork_addr.proofs.Known.{CountsDigits}
 use Rattle.ipnetwork_addr.proofs.decimal.digit_count.Given as goal
 
 abbrev pub invariant-digits : goal.invariant-digits

@@ -1,5 +1,4 @@
-use Rattle.std.proofs.Common.{arith}
-use Rattle.ipnetwork_addr.proofs.Decimals.{pushed_as, one_pushed, two_pushed, three_pushed}
+use Rattle.ipnetwork_addr.proofs.Known.{arith, pushed_as, one_pushed, two_pushed, three_pushed}
 use Rattle.ipnetwork_addr.proofs.decimal.push_decimal.Goals as goal
 
 pub returns-then-number-ge100-clause-bytes : goal.returns-then-number-ge100-clause-bytes

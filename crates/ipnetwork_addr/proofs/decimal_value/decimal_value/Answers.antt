@@ -1,8 +1,4 @@
-use Rattle.std.proofs.Common.{ℕ, cond, nat_lt, refl}
-use Rattle.std.specs.Char.{digit_value}
-use Rattle.ipnetwork_addr.specs.declared.decimal_value.TheConstants.{DIGITS}
-use Rattle.ipnetwork_addr.proofs.FirstDigits.{digit_bound}
-use Rattle.ipnetwork_addr.proofs.Tables.{entry}
+use Rattle.ipnetwork_addr.proofs.Known.{ℕ, cond, nat_lt, refl, digit_value, DIGITS, digit_bound, entry}
 use Rattle.ipnetwork_addr.proofs.decimal_value.decimal_value.Goals as goal
 
 -- the table's entry for a byte
@@ -13,4 +9,5 @@ pub returns-clause-value : goal.returns-clause-value
 returns-clause-value c = entry DIGITS value 256 refl c.args.byte _ c.ranges.byte.fits c.from.ensures
 
 pub returns-clause-bound : goal.returns-clause-bound
-returns-clause-bound c = digit_bound c.args.byte _ (entry DIGITS value 256 refl c.args.byte _ c.ranges.byte.fits c.from.ensures)
+returns-clause-bound c = digit_bound c.args.byte _
+    (entry DIGITS value 256 refl c.args.byte _ c.ranges.byte.fits c.from.ensures)

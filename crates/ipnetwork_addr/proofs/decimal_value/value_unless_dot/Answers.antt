@@ -1,9 +1,4 @@
-use Rattle.std.proofs.Common.{ℕ, ◌==◌, cond, nat_lt, refl}
-use Rattle.std.specs.Char.{digit_value}
-use Rattle.ipnetwork_addr.specs.Texts.{dot}
-use Rattle.ipnetwork_addr.specs.declared.decimal_value.TheConstants.{DIGITS_OR_DOT}
-use Rattle.ipnetwork_addr.proofs.FirstDigits.{last_bound}
-use Rattle.ipnetwork_addr.proofs.Tables.{entry}
+use Rattle.ipnetwork_addr.proofs.Known.{ℕ, ◌==◌, cond, nat_lt, refl, digit_value, dot, DIGITS_OR_DOT, last_bound, entry}
 use Rattle.ipnetwork_addr.proofs.decimal_value.value_unless_dot.Goals as goal
 
 -- the table's entry for a byte
@@ -14,4 +9,5 @@ pub returns-clause-value : goal.returns-clause-value
 returns-clause-value c = entry DIGITS_OR_DOT value 256 refl c.args.byte _ c.ranges.byte.fits c.from.ensures
 
 pub returns-clause-bound : goal.returns-clause-bound
-returns-clause-bound c = last_bound c.args.byte _ (entry DIGITS_OR_DOT value 256 refl c.args.byte _ c.ranges.byte.fits c.from.ensures)
+returns-clause-bound c = last_bound c.args.byte _
+    (entry DIGITS_OR_DOT value 256 refl c.args.byte _ c.ranges.byte.fits c.from.ensures)

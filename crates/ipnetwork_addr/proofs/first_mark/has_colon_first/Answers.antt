@@ -1,6 +1,4 @@
-use Rattle.std.proofs.Common.{◌≡◌, ℕ, ◌<◌, true, false, sym, ap, ◌∙◌, take-append-drop, take, drop, arith}
-use Rattle.ipnetwork_addr.specs.Texts.{colon_first}
-use Rattle.ipnetwork_addr.proofs.FirstLanes.{first_is}
+use Rattle.ipnetwork_addr.proofs.Known.{◌≡◌, ℕ, ◌<◌, true, false, sym, ap, ◌∙◌, take-append-drop, take, drop, arith, colon_first, first_is}
 use Rattle.ipnetwork_addr.proofs.first_mark.has_colon_first.Goals as goal
 
 -- one number is less than another if numbers equal to them are
@@ -11,10 +9,12 @@ pub returns-then-colon-dot : goal.returns-then-colon-dot
 returns-then-colon-dot c =
     let text = c.args.text.now in
     let less : c.lanes_before-colon.result < c.lanes_before-dot.result = omega arith in
-    sym (ap colon_first (sym (take-append-drop 8 text)) ∙ first_is true (take 8 text) (drop 8 text) (less_by c.lanes_before-colon.ensures c.lanes_before-dot.ensures less))
+    sym (ap colon_first (sym (take-append-drop 8 text)) ∙ first_is true (take 8 text) (drop 8 text)
+    (less_by c.lanes_before-colon.ensures c.lanes_before-dot.ensures less))
 
 pub returns-then-dot-colon : goal.returns-then-dot-colon
 returns-then-dot-colon c =
     let text = c.args.text.now in
     let less : c.lanes_before-dot.result < c.lanes_before-colon.result = omega arith in
-    sym (ap colon_first (sym (take-append-drop 8 text)) ∙ first_is false (take 8 text) (drop 8 text) (less_by c.lanes_before-dot.ensures c.lanes_before-colon.ensures less))
+    sym (ap colon_first (sym (take-append-drop 8 text)) ∙ first_is false (take 8 text) (drop 8 text)
+    (less_by c.lanes_before-dot.ensures c.lanes_before-colon.ensures less))

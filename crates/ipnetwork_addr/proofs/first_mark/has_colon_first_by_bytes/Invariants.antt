@@ -1,5 +1,4 @@
-use Rattle.std.proofs.Common.{◌≡◌, drop}
-use Rattle.ipnetwork_addr.specs.Texts.{colon_first}
+use Rattle.ipnetwork_addr.proofs.Known.{◌≡◌, drop, colon_first}
 use Rattle.ipnetwork_addr.proofs.first_mark.has_colon_first_by_bytes.Given as goal
 
 -- the bytes read so far contain neither, so the rest decides

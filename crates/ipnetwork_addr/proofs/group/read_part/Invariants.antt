@@ -1,4 +1,4 @@
-use Rattle.ipnetwork_addr.proofs.PartSteps.{PartSoFar}
+use Rattle.ipnetwork_addr.proofs.Known.{PartSoFar}
 use Rattle.ipnetwork_addr.proofs.group.read_part.Given as goal
 
 abbrev pub invariant-loop-count : goal.invariant-loop-count

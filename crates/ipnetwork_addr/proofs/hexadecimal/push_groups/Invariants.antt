@@ -1,6 +1,4 @@
-use Rattle.std.proofs.Common.{◌≡◌, ◌+◌, ◌*◌, ◌≤◌, ◌∷◌, ◌++◌, length, take, flat_map}
-use Rattle.ipnetwork_addr.specs.Texts.{colon}
-use Rattle.ipnetwork_addr.specs.Ipv6Canonical.{hex}
+use Rattle.ipnetwork_addr.proofs.Known.{◌≡◌, ◌+◌, ◌*◌, ◌≤◌, ◌∷◌, ◌++◌, length, take, flat_map, colon, hex}
 use Rattle.ipnetwork_addr.proofs.hexadecimal.push_groups.Given as goal
 
 abbrev pub invariant-loop-group : goal.invariant-loop-group

@@ -1,4 +1,4 @@
-use Rattle.ipnetwork_addr.proofs.OctetFronts.{one_digit, no_octet_of_one}
+use Rattle.ipnetwork_addr.proofs.Known.{one_digit, no_octet_of_one}
 use Rattle.ipnetwork_addr.proofs.octet.octet_of_one.Goals as goal
 
 pub returns-then-value-gt9 : goal.returns-then-value-gt9

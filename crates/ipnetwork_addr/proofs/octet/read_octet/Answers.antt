@@ -1,8 +1,4 @@
-use Rattle.std.proofs.Common.{MatchOption, subst, arith, List, ℕ}
-use Rattle.ipnetwork_addr.specs.Ipv4Text.{IsOctet}
-use Rattle.ipnetwork_addr.specs.Private.OctetFront.{IsNoOctet}
-use Rattle.ipnetwork_addr.proofs.FirstDigits.{all_of}
-use Rattle.ipnetwork_addr.proofs.OctetFronts.{no_octet_of_none, no_octet_of_four}
+use Rattle.ipnetwork_addr.proofs.Known.{MatchOption, subst, arith, List, ℕ, IsOctet, IsNoOctet, all_of, no_octet_of_none, no_octet_of_four}
 use Rattle.ipnetwork_addr.proofs.octet.read_octet.Goals.{then-count-lt2-via-then-count-lt2, then-count-lt2-via-else-count-lt2+then-count-gt3}
 use Rattle.ipnetwork_addr.proofs.octet.read_octet.Goals as goal
 

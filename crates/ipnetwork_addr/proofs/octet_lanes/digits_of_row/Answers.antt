@@ -1,4 +1,4 @@
-use Rattle.ipnetwork_addr.proofs.OctetLanes.{positions_ok, lanes_at}
+use Rattle.ipnetwork_addr.proofs.Known.{positions_ok, lanes_at}
 use Rattle.ipnetwork_addr.proofs.octet_lanes.digits_of_row.Goals as goal
 
 pub swizzle : goal.swizzle

@@ -1,4 +1,4 @@
-use Rattle.ipnetwork_addr.proofs.OctetLanes.{joined_ok, joined_text}
+use Rattle.ipnetwork_addr.proofs.Known.{joined_ok, joined_text}
 use Rattle.ipnetwork_addr.proofs.octet_lanes.joined.Goals as goal
 
 pub swizzle : goal.swizzle

@@ -1,7 +1,4 @@
-use Rattle.std.proofs.Common.{refl, ◌∙◌}
-use Rattle.ipnetwork_addr.specs.declared.octet_tables.TheConstants.{LENGTHS}
-use Rattle.ipnetwork_addr.specs.Private.OctetLanes.{end_of}
-use Rattle.ipnetwork_addr.proofs.Tables.{entry}
+use Rattle.ipnetwork_addr.proofs.Known.{refl, ◌∙◌, LENGTHS, end_of, entry}
 use Rattle.ipnetwork_addr.proofs.octet_tables.length_of_row.Goals as goal
 
 pub returns : goal.returns

@@ -1,9 +1,4 @@
-use Rattle.std.proofs.Common.{sym, subst, ◌∙◌, arith, ◌-◌, ◌<◌, ℕ, List, length, map}
-use Rattle.std.proofs.lemmas.List.{get_or_default, length-map}
-use Rattle.ipnetwork_family.specs.Network.{Network}
-use Rattle.ipnetwork_blocks.specs.Private.Joining.{AreHalves}
-use Rattle.ipnetwork_blocks.proofs.AggregateMapped.{read_held}
-use Rattle.ipnetwork_blocks.proofs.AggregateFront.{IsJoining, joining_starts, joining_more, joining_stops}
+use Rattle.ipnetwork_blocks.proofs.Known.{sym, subst, ◌∙◌, arith, ◌-◌, ◌<◌, ℕ, List, length, map, get_or_default, length-map, Network, AreHalves, read_held, IsJoining, joining_starts, joining_more, joining_stops}
 use Rattle.ipnetwork_blocks.proofs.aggregate.join_back.Goals as goal
 
 pub loop-left-preserved : goal.loop-left-preserved
@@ -14,7 +9,8 @@ loop-left-preserved g c =
     let last : Network = g.N.CidrNetwork.pair c.held_network.result in
     let len = length-map c.args.front.now g.H.HoldsNetwork.held in
     let fits : c.loop-left.left - 1 < length c.args.front.now = let b = c.loop-left.invariant.bound in omega arith in
-    let is = read_held g.H.HoldsNetwork.held c.args.front.now (c.loop-left.left - 1) c.index-front-left.result last fits c.index-front-left.is c.held_network.ensures in
+    let is = read_held g.H.HoldsNetwork.held c.args.front.now (c.loop-left.left - 1) c.index-front-left.result last fits
+    c.index-front-left.is c.held_network.ensures in
     subst (λ (n : Network). IsJoining w r (g.N.CidrNetwork.pair c.args.block) (c.loop-left.left - 1) n) (sym s.1)
     (joining_more last c.requires.joined c.loop-left.invariant
     (omega arith) is s.0)
@@ -27,9 +23,12 @@ returns-in-None-clause-joined g c =
     let last : Network = g.N.CidrNetwork.pair c.held_network.result in
     let len = length-map c.args.front.now g.H.HoldsNetwork.held in
     let fits : c.loop-left.left - 1 < length c.args.front.now = let b = c.loop-left.invariant.bound in omega arith in
-    let is = read_held g.H.HoldsNetwork.held c.args.front.now (c.loop-left.left - 1) c.index-front-left.result last fits c.index-front-left.is c.held_network.ensures in
-    joining_stops w r (g.N.CidrNetwork.pair c.args.block) c.loop-left.left joined c.requires.joined c.loop-left.invariant
-    (λ t some at s. c.in-None.ensures (subst (λ (n : Network). AreHalves w n joined) (at ∙ get_or_default r (c.loop-left.left - 1) t last (omega arith) ∙ sym is) s))
+    let is = read_held g.H.HoldsNetwork.held c.args.front.now (c.loop-left.left - 1) c.index-front-left.result last fits
+    c.index-front-left.is c.held_network.ensures in
+    joining_stops w r (g.N.CidrNetwork.pair c.args.block) c.loop-left.left joined c.requires.joined
+    c.loop-left.invariant
+    (λ t some at s. c.in-None.ensures (subst (λ (n : Network). AreHalves w n joined)
+    (at ∙ get_or_default r (c.loop-left.left - 1) t last (omega arith) ∙ sym is) s))
 
 pub overflow_sub-left : goal.overflow_sub-left
 overflow_sub-left g c = omega arith
@@ -63,7 +62,8 @@ returns-clause-left g c =
 
 pub returns-clause-joined : goal.returns-clause-joined
 returns-clause-joined g c =
-    joining_stops g.N.CidrNetwork.WIDTH (map g.H.HoldsNetwork.held c.args.front.now) (g.N.CidrNetwork.pair c.args.block) c.loop-left.left (g.N.CidrNetwork.pair c.loop-left.joined)
+    joining_stops g.N.CidrNetwork.WIDTH (map g.H.HoldsNetwork.held c.args.front.now) (g.N.CidrNetwork.pair c.args.block)
+    c.loop-left.left (g.N.CidrNetwork.pair c.loop-left.joined)
     c.requires.joined c.loop-left.invariant (λ t some at s. absurd (omega arith))
 
 pub returns-clause-union : goal.returns-clause-union
@@ -77,4 +77,5 @@ loop-left-init g c =
     let w : ℕ = g.N.CidrNetwork.WIDTH in
     let r : List Network = map g.H.HoldsNetwork.held c.args.front.now in
     let b : Network = g.N.CidrNetwork.pair c.args.block in
-    subst (λ (k : ℕ). IsJoining w r b k b) (length-map c.args.front.now g.H.HoldsNetwork.held) (joining_starts w r b c.requires.block c.requires.behind)
+    subst (λ (k : ℕ). IsJoining w r b k b) (length-map c.args.front.now g.H.HoldsNetwork.held)
+    (joining_starts w r b c.requires.block c.requires.behind)

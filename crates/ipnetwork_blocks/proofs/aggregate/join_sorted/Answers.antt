@@ -1,27 +1,22 @@
-use Rattle.std.proofs.Common.{◌≡◌, ◌+◌, ◌<◌, ◌++◌, ◌∷◌, [], ℕ, List, map, take, set, sym, subst, arith}
-use Rattle.std.specs.List.{All}
-use Rattle.std.proofs.lemmas.Bool.{iff_false}
-use Rattle.std.proofs.lemmas.List.{length-map, take-map, map-set, length-take-le}
-use Rattle.std.proofs.lemmas.List.Elements.{All-set}
-use Rattle.ipnetwork_family.specs.Network.{Network, high}
-use Rattle.ipnetwork_blocks.specs.Aggregate.{SameUnion}
-use Rattle.ipnetwork_blocks.specs.Private.Joining.{AreJoined, LiesInLast}
-use Rattle.ipnetwork_blocks.proofs.AggregateMapped.{read_held}
-use Rattle.ipnetwork_blocks.proofs.AggregatePass.{IsPassing, passing_starts, passing_skips_last, passing_after_last, passing_block, passing_places, passed_all}
+use Rattle.ipnetwork_blocks.proofs.Known.{◌≡◌, ◌+◌, ◌<◌, ◌++◌, ◌∷◌, [], ℕ, List, map, take, set, sym, subst, arith, All, iff_false, length-map, take-map, map-set, length-take-le, All-set, Network, high, SameUnion, AreJoined, LiesInLast, read_held, IsPassing, passing_starts, passing_skips_last, passing_after_last, passing_block, passing_places, passed_all}
 use Rattle.ipnetwork_blocks.proofs.aggregate.join_sorted.Goals as goal
 use Rattle.ipnetwork_blocks.proofs.aggregate.join_sorted.Goals.{then-not-lies_in_last, else-not-lies_in_last}
 
 pub join_back-left-requires-clause-joined : goal.join_back-left-requires-clause-joined
 join_back-left-requires-clause-joined g c =
-    subst (λ (t : List Network). AreJoined g.N.CidrNetwork.WIDTH t) (take-map g.H.HoldsNetwork.held c.loop-next.kept c.loop-next.values) c.loop-next.invariant.1.joined
+    subst (λ (t : List Network). AreJoined g.N.CidrNetwork.WIDTH t)
+    (take-map g.H.HoldsNetwork.held c.loop-next.kept c.loop-next.values) c.loop-next.invariant.1.joined
 
 pub join_back-left-requires-clause-block : goal.join_back-left-requires-clause-block
 join_back-left-requires-clause-block g c =
     let size_z = length-map c.args.values.now g.H.HoldsNetwork.held in
     let size_x = length-map c.loop-next.values g.H.HoldsNetwork.held in
     let size = c.loop-next.invariant.1.size in
-    passing_block (g.N.CidrNetwork.pair c.held_network-block.result) c.requires.blocks c.loop-next.invariant.1 (omega arith)
-    (read_held g.H.HoldsNetwork.held c.loop-next.values c.loop-next.next c.index-values-next.result (g.N.CidrNetwork.pair c.held_network-block.result) (omega arith) c.index-values-next.is c.held_network-block.ensures)
+    passing_block (g.N.CidrNetwork.pair c.held_network-block.result) c.requires.blocks c.loop-next.invariant.1
+    (omega arith)
+    (read_held g.H.HoldsNetwork.held c.loop-next.values c.loop-next.next c.index-values-next.result
+    (g.N.CidrNetwork.pair c.held_network-block.result) (omega arith) c.index-values-next.is
+    c.held_network-block.ensures)
 
 pub join_back-left-requires-clause-behind : goal.join_back-left-requires-clause-behind
 join_back-left-requires-clause-behind g c =
@@ -33,8 +28,10 @@ join_back-left-requires-clause-behind g c =
     let front = take-map g.H.HoldsNetwork.held c.loop-next.kept c.loop-next.values in
     subst (λ (t : List Network). All (λ a. high w a < b.address) t) front
     (passing_after_last b c.requires.blocks c.loop-next.invariant.1 (omega arith)
-    (read_held g.H.HoldsNetwork.held c.loop-next.values c.loop-next.next c.index-values-next.result b (omega arith) c.index-values-next.is c.held_network-block.ensures)
-    (λ last. iff_false c.lies_in_last.ensures c.if-not-lies_in_last.true (subst (λ (t : List Network). LiesInLast w t b) front last)))
+    (read_held g.H.HoldsNetwork.held c.loop-next.values c.loop-next.next c.index-values-next.result b (omega arith)
+    c.index-values-next.is c.held_network-block.ensures)
+    (λ last. iff_false c.lies_in_last.ensures c.if-not-lies_in_last.true
+    (subst (λ (t : List Network). LiesInLast w t b) front last)))
 
 pub loop-next-preserved : goal.loop-next-preserved
 loop-next-preserved g c =
@@ -45,12 +42,17 @@ loop-next-preserved g c =
     let size_z = length-map c.args.values.now g.H.HoldsNetwork.held in
     let size_x = length-map c.loop-next.values g.H.HoldsNetwork.held in
     let size = c.loop-next.invariant.1.size in
-    let front : take c.loop-next.kept xs ≡ map g.H.HoldsNetwork.held (take c.loop-next.kept c.loop-next.values) = take-map g.H.HoldsNetwork.held c.loop-next.kept c.loop-next.values in
-    let is = read_held g.H.HoldsNetwork.held c.loop-next.values c.loop-next.next c.index-values-next.result b (omega arith) c.index-values-next.is c.held_network-block.ensures in
-    let branch = λ (ys : List g.row.H.Denot) (kept : ℕ) (e : c.if-not-lies_in_last.values ≡ ys) (f : c.if-not-lies_in_last.kept ≡ kept)
+    let front : take c.loop-next.kept xs ≡ map g.H.HoldsNetwork.held (take c.loop-next.kept c.loop-next.values) =
+    take-map g.H.HoldsNetwork.held c.loop-next.kept c.loop-next.values in
+    let is = read_held g.H.HoldsNetwork.held c.loop-next.values c.loop-next.next c.index-values-next.result b
+    (omega arith) c.index-values-next.is c.held_network-block.ensures in
+    let branch = λ (ys : List g.row.H.Denot) (kept : ℕ) (e : c.if-not-lies_in_last.values ≡ ys)
+    (f : c.if-not-lies_in_last.kept ≡ kept)
     (p : All g.H.HoldsNetwork.holds ys × IsPassing w z (map g.H.HoldsNetwork.held ys) (c.loop-next.next + 1) kept).
-    subst (λ (us : List g.row.H.Denot). All g.H.HoldsNetwork.holds us × IsPassing w z (map g.H.HoldsNetwork.held us) (c.loop-next.next + 1) c.if-not-lies_in_last.kept) (sym e)
-    (subst (λ (k : ℕ). All g.H.HoldsNetwork.holds ys × IsPassing w z (map g.H.HoldsNetwork.held ys) (c.loop-next.next + 1) k) (sym f) p) in
+    subst (λ (us : List g.row.H.Denot). All g.H.HoldsNetwork.holds us
+    × IsPassing w z (map g.H.HoldsNetwork.held us) (c.loop-next.next + 1) c.if-not-lies_in_last.kept) (sym e)
+    (subst (λ (k : ℕ). All g.H.HoldsNetwork.holds ys
+    × IsPassing w z (map g.H.HoldsNetwork.held ys) (c.loop-next.next + 1) k) (sym f) p) in
     elim c.if-not-lies_in_last.branch [
       | then-not-lies_in_last v ↦
           let left : ℕ = v.join_back-left.result.0 in
@@ -58,25 +60,36 @@ loop-next-preserved g c =
           let bound = c.loop-next.invariant.1.bound in
           let kept_is = length-take-le c.loop-next.kept c.loop-next.values (omega arith) in
           let le = v.join_back-left.ensures.left in
-          let placed : IsPassing w z (map g.H.HoldsNetwork.held (set c.loop-next.values left v.holding.result)) (c.loop-next.next + 1) (left + 1) =
-          subst (λ (t : List Network). IsPassing w z t (c.loop-next.next + 1) (left + 1)) (sym (map-set g.H.HoldsNetwork.held c.loop-next.values left v.holding.result))
-          (subst (λ (n : Network). IsPassing w z (set xs left n) (c.loop-next.next + 1) (left + 1)) (sym v.holding.ensures.1)
+          let placed : IsPassing w z (map g.H.HoldsNetwork.held (set c.loop-next.values left v.holding.result))
+          (c.loop-next.next + 1) (left + 1) =
+          subst (λ (t : List Network). IsPassing w z t (c.loop-next.next + 1) (left + 1))
+          (sym (map-set g.H.HoldsNetwork.held c.loop-next.values left v.holding.result))
+          (subst (λ (n : Network). IsPassing w z (set xs left n) (c.loop-next.next + 1) (left + 1))
+          (sym v.holding.ensures.1)
           (passing_places b left whole c.requires.order c.loop-next.invariant.1 (omega arith) is (omega arith)
-          (subst (λ (t : List Network). AreJoined w (take left t ++ whole ∷ [])) (sym front) v.join_back-left.ensures.joined)
-          (subst (λ (t : List Network). SameUnion w (take left t ++ whole ∷ []) (t ++ b ∷ [])) (sym front) v.join_back-left.ensures.union)
+          (subst (λ (t : List Network). AreJoined w (take left t ++ whole ∷ [])) (sym front)
+          v.join_back-left.ensures.joined)
+          (subst (λ (t : List Network). SameUnion w (take left t ++ whole ∷ []) (t ++ b ∷ [])) (sym front)
+          v.join_back-left.ensures.union)
           v.join_back-left.ensures.order)) in
-          branch _ _ v.values-is v.kept-is (All-set g.H.HoldsNetwork.holds c.loop-next.values left v.holding.result v.holding.ensures.0 c.loop-next.invariant.0, placed)
+          branch _ _ v.values-is v.kept-is (
+            All-set g.H.HoldsNetwork.holds c.loop-next.values left v.holding.result v.holding.ensures.0
+                c.loop-next.invariant.0,
+            placed,
+          )
       | else-not-lies_in_last v ↦ branch _ _ v.values-is v.kept-is (
         c.loop-next.invariant.0,
         passing_skips_last b c.requires.order c.loop-next.invariant.1 (omega arith) is
-            (subst (λ (t : List Network). LiesInLast w t b) (sym front) (c.lies_in_last.ensures.0 v.if-not-lies_in_last.false)),
+            (subst (λ (t : List Network). LiesInLast w t b) (sym front)
+            (c.lies_in_last.ensures.0 v.if-not-lies_in_last.false)),
       )
     ]
 
 pub returns-clause-union : goal.returns-clause-union
 returns-clause-union g c =
     let size_z = length-map c.args.values.now g.H.HoldsNetwork.held in
-    passed_all g.N.CidrNetwork.WIDTH (map g.H.HoldsNetwork.held c.args.values.now) (map g.H.HoldsNetwork.held c.loop-next.values) c.loop-next.next c.loop-next.kept c.loop-next.invariant.1 (omega arith)
+    passed_all g.N.CidrNetwork.WIDTH (map g.H.HoldsNetwork.held c.args.values.now) (map g.H.HoldsNetwork.held
+    c.loop-next.values) c.loop-next.next c.loop-next.kept c.loop-next.invariant.1 (omega arith)
 
 pub overflow_add-kept : goal.overflow_add-kept
 overflow_add-kept g c =
@@ -109,4 +122,5 @@ pub returns-clause-held : goal.returns-clause-held
 returns-clause-held g c = c.loop-next.invariant.0
 
 pub loop-next-init : goal.loop-next-init
-loop-next-init g c = (c.requires.held, passing_starts g.N.CidrNetwork.WIDTH (map g.H.HoldsNetwork.held c.args.values.now))
+loop-next-init g c =
+    (c.requires.held, passing_starts g.N.CidrNetwork.WIDTH (map g.H.HoldsNetwork.held c.args.values.now))

@@ -1,8 +1,4 @@
-use Rattle.std.proofs.Common.{List, map, take, subst, arith}
-use Rattle.ipnetwork.specs.declared.ip_network.IpNetwork.{IpNetwork}
-use Rattle.ipnetwork_blocks.specs.Aggregate.{IsAggregate}
-use Rattle.ipnetwork_blocks.specs.Private.Held.{the_network}
-use Rattle.ipnetwork_blocks.proofs.AggregateIp.{either_aggregate}
+use Rattle.ipnetwork_blocks.proofs.Known.{List, map, take, subst, arith, IpNetwork, IsAggregate, the_network, either_aggregate}
 use Rattle.ipnetwork_blocks.proofs.aggregate_ip.aggregate_ip_in_place.Goals as goal
 
 pub returns-clause-aggregate : goal.returns-clause-aggregate
@@ -12,18 +8,21 @@ returns-clause-aggregate c =
     let a = c.aggregate_held-v4_blocks.result in
     let b = c.aggregate_held-v6_blocks.result in
     let front = c.split_at_mut-v4.ensures.front_len in
-    either_aggregate c.args.networks.now c.put_v4_first-v4_count.new.networks v4 v6 c.copy_within.new.self c.put_v4_first-v4_count.result a b
+    either_aggregate c.args.networks.now c.put_v4_first-v4_count.new.networks v4 v6 c.copy_within.new.self
+    c.put_v4_first-v4_count.result a b
     c.put_v4_first-v4_count.ensures.same (omega (arith, front))
     (record {
       given = c.put_v4_first-v4_count.ensures.v4;
       left = c.aggregate_held-v4_blocks.ensures.held;
       within = omega (arith, c.aggregate_held-v4_blocks.ensures.within);
-      aggregate = subst (λ (t : List IpNetwork). IsAggregate 32 (map the_network t) (map the_network (take a v4))) c.split_at_mut-v4.ensures.front c.aggregate_held-v4_blocks.ensures.aggregate;
+      aggregate = subst (λ (t : List IpNetwork). IsAggregate 32 (map the_network t) (map the_network (take a v4)))
+          c.split_at_mut-v4.ensures.front c.aggregate_held-v4_blocks.ensures.aggregate;
     })
     (record {
       given = c.put_v4_first-v4_count.ensures.v6;
       left = c.aggregate_held-v6_blocks.ensures.held;
       within = omega (arith, c.aggregate_held-v6_blocks.ensures.within);
-      aggregate = subst (λ (t : List IpNetwork). IsAggregate 128 (map the_network t) (map the_network (take b v6))) c.split_at_mut-v4.ensures.back c.aggregate_held-v6_blocks.ensures.aggregate;
+      aggregate = subst (λ (t : List IpNetwork). IsAggregate 128 (map the_network t) (map the_network (take b v6)))
+          c.split_at_mut-v4.ensures.back c.aggregate_held-v6_blocks.ensures.aggregate;
     })
     c.copy_within.ensures.after

@@ -1,6 +1,4 @@
-use Rattle.std.proofs.Common.{◌+◌, ◌<◌, ◌^◌, ℕ, ap, ◌∙◌, subst}
-use Rattle.ipnetwork_family.specs.Network.{Network, high, block_at}
-use Rattle.ipnetwork_blocks.proofs.FollowingBlock.{followed}
+use Rattle.ipnetwork_blocks.proofs.Known.{◌+◌, ◌<◌, ◌^◌, ℕ, ap, ◌∙◌, subst, Network, high, block_at, followed}
 use Rattle.ipnetwork_blocks.proofs.following_block.following.Goals as goal
 
 pub returns-in-Some : goal.returns-in-Some
@@ -9,5 +7,6 @@ returns-in-Some g c =
     let n : Network = g.N.CidrNetwork.pair c.args.network in
     let x : ℕ = g.N.CidrNetwork.number c.in-Some.next in
     let fits : high w n + 1 < 2 ^ w = subst (λ (k : ℕ). k + 1 < 2 ^ w) c.broadcast.ensures c.in-Some.ensures.0 in
-    followed w x n (g.N.CidrNetwork.pair c.block_at.result) fits (c.in-Some.ensures.1 ∙ ap (λ k. k + 1) c.broadcast.ensures)
+    followed w x n (g.N.CidrNetwork.pair c.block_at.result) fits
+    (c.in-Some.ensures.1 ∙ ap (λ k. k + 1) c.broadcast.ensures)
     (c.block_at.ensures.made ∙ ap (λ p. block_at w x p) c.prefix.ensures.made)

@@ -1,6 +1,4 @@
-use Rattle.std.proofs.Common.{◌≡◌, ◌≤◌, ◌∙◌, arith}
-use Rattle.ipnetwork_family.specs.Network.{low, high}
-use Rattle.ipnetwork_blocks.proofs.HostLists.{ipv4_between, two_members}
+use Rattle.ipnetwork_blocks.proofs.Known.{◌≡◌, ◌≤◌, ◌∙◌, arith, low, high, ipv4_between, two_members}
 use Rattle.ipnetwork_blocks.proofs.hosts.ipv4_hosts.Goals as goal
 
 pub overflow_sub-result-2 : goal.overflow_sub-result-2
@@ -22,4 +20,5 @@ pub returns : goal.returns
 returns c =
     let n = c.args.network in
     let short : n.prefix ≤ 30 = omega (arith, c.if-prefix-gt30.false, c.prefix.ensures.made) in
-    ipv4_between n c.from-first.result c.from-last.result short (c.from-first.ensures ∙ c.network.ensures.least) (c.from-last.ensures ∙ c.broadcast.ensures)
+    ipv4_between n c.from-first.result c.from-last.result short (c.from-first.ensures ∙ c.network.ensures.least)
+    (c.from-last.ensures ∙ c.broadcast.ensures)

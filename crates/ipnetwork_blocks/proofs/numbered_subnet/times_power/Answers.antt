@@ -1,4 +1,4 @@
-use Rattle.ipnetwork_blocks.proofs.NumberedSubnet.{few_shifted}
+use Rattle.ipnetwork_blocks.proofs.Known.{few_shifted}
 use Rattle.ipnetwork_blocks.proofs.numbered_subnet.times_power.Goals as goal
 
 pub overflow_shl-result : goal.overflow_shl-result

@@ -1,10 +1,8 @@
-use Rattle.std.proofs.Common.{◌∷◌, take, map}
-use Rattle.std.specs.List.{Contains}
-use Rattle.ipnetwork_family.specs.Network.{Network}
-use Rattle.ipnetwork_blocks.specs.Spanning.{IsSpanning}
+use Rattle.ipnetwork_blocks.proofs.Known.{◌∷◌, take, map, Contains, Network, IsSpanning}
 use Rattle.ipnetwork_blocks.proofs.spanning_block.spanning.Given as goal
 
 abbrev pub invariant-loop-network : goal.invariant-loop-network
 invariant-loop-network g l =
     (n : Network) × Contains (map g.N.CidrNetwork.pair l.networks) n
-    × IsSpanning g.N.CidrNetwork.WIDTH (n ∷ take l.network-index (map g.N.CidrNetwork.pair l.networks)) (g.N.CidrNetwork.pair l.around)
+    × IsSpanning g.N.CidrNetwork.WIDTH (n ∷ take l.network-index (map g.N.CidrNetwork.pair l.networks))
+    (g.N.CidrNetwork.pair l.around)

@@ -1,5 +1,4 @@
-use Rattle.std.proofs.Common.{sym}
-use Rattle.ipnetwork_c.specs.Outcomes.Unless.{On}
+use Rattle.ipnetwork_c.proofs.Known.{sym, On}
 use Rattle.ipnetwork_c.proofs.address.ipnetwork_address_canonical.Goals as goal
 
 pub returns-in-Some : goal.returns-in-Some

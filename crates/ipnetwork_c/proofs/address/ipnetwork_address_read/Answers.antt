@@ -1,5 +1,4 @@
-use Rattle.std.proofs.Common.{refl}
-use Rattle.ipnetwork_c.specs.Outcomes.Unless.{On}
+use Rattle.ipnetwork_c.proofs.Known.{refl, On}
 use Rattle.ipnetwork_c.proofs.address.ipnetwork_address_read.Goals as goal
 
 pub returns-in-Ok : goal.returns-in-Ok

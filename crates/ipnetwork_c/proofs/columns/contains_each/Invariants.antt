@@ -1,8 +1,7 @@
-use Rattle.std.proofs.Common.{◌≡◌, ◌++◌, map, take, drop}
-use Rattle.std.specs.Int.{from_bool}
-use Rattle.ipnetwork_family.specs.Computed.Network.{is_member}
+use Rattle.ipnetwork_c.proofs.Known.{◌≡◌, ◌++◌, map, take, drop, from_bool, is_member}
 use Rattle.ipnetwork_c.proofs.columns.contains_each.Given as goal
 
 abbrev pub invariant-loop-row : goal.invariant-loop-row
 invariant-loop-row g l =
-    l.answers ≡ map (λ octets. from_bool (is_member g.N.CidrNetwork.WIDTH (g.H.HoldsNetwork.held l.network) (g.H.Numbered.meant octets))) (take l.row l.addresses) ++ drop l.row l.initial.answers
+    l.answers ≡ map (λ octets. from_bool (is_member g.N.CidrNetwork.WIDTH (g.H.HoldsNetwork.held l.network)
+    (g.H.Numbered.meant octets))) (take l.row l.addresses) ++ drop l.row l.initial.answers

@@ -1,6 +1,4 @@
-use Rattle.std.proofs.Common.{refl}
-use Rattle.ipnetwork.specs.declared.ip_network.IpNetwork.TheVariants.{V6}
-use Rattle.ipnetwork_c.specs.Outcomes.Unless.{On}
+use Rattle.ipnetwork_c.proofs.Known.{refl, V6, On}
 use Rattle.ipnetwork_c.proofs.either.read_any.Goals as goal
 
 pub returns-in-Some : goal.returns-in-Some

@@ -1,5 +1,4 @@
-use Rattle.std.proofs.Common.{ℕ, ◌+◌, ◌-◌, ◌/◌, ◌^◌, ◌<◌, ◌≤◌, map}
-use Rattle.ipnetwork_c.specs.Indexes.{span}
+use Rattle.ipnetwork_c.proofs.Known.{ℕ, ◌+◌, ◌-◌, ◌/◌, ◌^◌, ◌<◌, ◌≤◌, map, span}
 use Rattle.ipnetwork_c.proofs.index_making.least_shift.Given as goal
 
 abbrev pub invariant-loop-shift : goal.invariant-loop-shift

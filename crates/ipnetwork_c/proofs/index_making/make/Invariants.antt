@@ -1,5 +1,4 @@
-use Rattle.std.proofs.Common.{◌≡◌, length, map}
-use Rattle.ipnetwork_c.specs.Private.Indexes.{HasStarts}
+use Rattle.ipnetwork_c.proofs.Known.{◌≡◌, length, map, HasStarts}
 use Rattle.ipnetwork_c.proofs.index_making.make.Given as goal
 
 abbrev pub invariant-loop-part : goal.invariant-loop-part

@@ -1,6 +1,4 @@
-use Rattle.std.proofs.Common.{refl}
-use Rattle.ipnetwork_c.specs.Outcomes.Unless.{On}
-use Rattle.ipnetwork_c.proofs.Truths.{fits_too}
+use Rattle.ipnetwork_c.proofs.Known.{refl, On, fits_too}
 use Rattle.ipnetwork_c.proofs.index_making.make_of_set.Goals as goal
 
 pub returns : goal.returns

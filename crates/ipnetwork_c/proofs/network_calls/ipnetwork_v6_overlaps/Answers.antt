@@ -1,6 +1,4 @@
-use Rattle.std.proofs.Common.{refl}
-use Rattle.ipnetwork_c.specs.Outcomes.Unless.{On}
-use Rattle.ipnetwork_c.proofs.Truths.{says}
+use Rattle.ipnetwork_c.proofs.Known.{refl, On, says}
 use Rattle.ipnetwork_c.proofs.network_calls.ipnetwork_v6_overlaps.Goals as goal
 
 pub returns-in-Some-Some : goal.returns-in-Some-Some

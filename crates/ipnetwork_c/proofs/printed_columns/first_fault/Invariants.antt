@@ -1,5 +1,4 @@
-use Rattle.std.proofs.Common.{ℕ, ◌<◌}
-use Rattle.ipnetwork_c.proofs.PrintedRows.{FitsAt}
+use Rattle.ipnetwork_c.proofs.Known.{ℕ, ◌<◌, FitsAt}
 use Rattle.ipnetwork_c.proofs.printed_columns.first_fault.Given as goal
 
 abbrev pub invariant-loop-row : goal.invariant-loop-row

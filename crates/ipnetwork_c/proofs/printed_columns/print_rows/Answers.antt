@@ -1,5 +1,4 @@
-use Rattle.std.proofs.Common.{refl}
-use Rattle.ipnetwork_c.specs.Outcomes.Unless.{Nothing}
+use Rattle.ipnetwork_c.proofs.Known.{refl, Nothing}
 use Rattle.ipnetwork_c.proofs.printed_columns.print_rows.Goals as goal
 
 pub returns-then-fault-ne-OK : goal.returns-then-fault-ne-OK

@@ -1,5 +1,4 @@
-use Rattle.std.proofs.Common.{◌≡◌, ◌*◌, ◌≤◌, length, take}
-use Rattle.std.specs.List.{flat_map}
+use Rattle.ipnetwork_c.proofs.Known.{◌≡◌, ◌*◌, ◌≤◌, length, take, flat_map}
 use Rattle.ipnetwork_c.proofs.printed_columns.texts_length.Given as goal
 
 abbrev pub invariant-loop-row : goal.invariant-loop-row

@@ -1,5 +1,4 @@
-use Rattle.std.proofs.Common.{refl}
-use Rattle.ipnetwork_c.specs.Outcomes.Unless.{On, Nothing}
+use Rattle.ipnetwork_c.proofs.Known.{refl, On, Nothing}
 use Rattle.ipnetwork_c.proofs.questions.ipnetwork_canonical.Goals as goal
 
 pub returns-in-Ok : goal.returns-in-Ok

@@ -1,10 +1,9 @@
-use Rattle.std.proofs.Common.{rules}
-use Rattle.ipnetwork_c.specs.Outcomes.Unless.{On, Nothing}
-use Rattle.ipnetwork_c.proofs.Truths.{says}
+use Rattle.ipnetwork_c.proofs.Known.{rules, On, Nothing, says}
 use Rattle.ipnetwork_c.proofs.questions.ipnetwork_is_subnet_of.Goals as goal
 
 pub returns : goal.returns
 returns c = elim c.tell_both.ensures [
-  | On h ↦ On (h.0, h.1, elim h.2 [ On k ↦ On (k.0, k.1, (k.2.0, search (rules, says, k.2.1))) | Nothing r e ↦ Nothing r e ])
+  | On h ↦ On
+      (h.0, h.1, elim h.2 [ On k ↦ On (k.0, k.1, (k.2.0, search (rules, says, k.2.1))) | Nothing r e ↦ Nothing r e ])
   | Nothing r e ↦ Nothing r e
 ]

@@ -1,5 +1,4 @@
-use Rattle.std.proofs.Common.{rules}
-use Rattle.ipnetwork_c.specs.Outcomes.Unless.{On, Nothing}
+use Rattle.ipnetwork_c.proofs.Known.{rules, On, Nothing}
 use Rattle.ipnetwork_c.proofs.questions.ipnetwork_network.Goals as goal
 
 pub returns : goal.returns

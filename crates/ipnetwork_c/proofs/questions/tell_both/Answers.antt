@@ -1,5 +1,4 @@
-use Rattle.std.proofs.Common.{refl}
-use Rattle.ipnetwork_c.specs.Outcomes.Unless.{On, Nothing}
+use Rattle.ipnetwork_c.proofs.Known.{refl, On, Nothing}
 use Rattle.ipnetwork_c.proofs.questions.tell_both.Goals as goal
 
 pub returns-in-Err : goal.returns-in-Err

@@ -1,11 +1,4 @@
-use Rattle.std.proofs.Common.{◌≡◌, ℕ, ◌*◌, ◌≤◌, List, length, map, take, drop, subst, ◌∙◌, arith}
-use Rattle.std.specs.List.{All}
-use Rattle.std.proofs.lemmas.List.{length-take-le}
-use Rattle.std.proofs.lemmas.List.Sorted.{All-permutation, length_permutation}
-use Rattle.ipnetwork_blocks.proofs.AggregateMapped.{in_order_from_sort}
-use Rattle.ipnetwork_c.specs.Private.Cuts.{firsts, ArePlacesUpTo}
-use Rattle.ipnetwork_c.proofs.Truths.{fits_too}
-use Rattle.ipnetwork_c.proofs.Cutting.{front_taken, made}
+use Rattle.ipnetwork_c.proofs.Known.{◌≡◌, ℕ, ◌*◌, ◌≤◌, List, length, map, take, drop, subst, ◌∙◌, arith, All, length-take-le, All-permutation, length_permutation, in_order_from_sort, firsts, ArePlacesUpTo, fits_too, front_taken, made}
 use Rattle.ipnetwork_c.proofs.range_making.make.Goals as goal
 
 pub returns : goal.returns
@@ -27,10 +20,14 @@ returns g c =
     let room : 2 * length list ≤ length c.args.ranges.now = omega arith in
     let places_room : 2 * length list ≤ length c.args.places.now = omega arith in
     let within : n ≤ length c.args.places.now = omega arith in
-    let held_all : All holds sorted = All-permutation holds (take n cut) sorted c.sort_unstable.ensures.permutation (λ k d l. (cuts.alone k d l).holds_it) in
-    let order = in_order_from_sort held holds g.H.Ord.cmp sorted g.met.H.HoldsNetwork.held_order held_all c.sort_unstable.ensures.sorted in
+    let held_all : All holds sorted = All-permutation holds (take n cut) sorted c.sort_unstable.ensures.permutation
+    (λ k d l. (cuts.alone k d l).holds_it) in
+    let order = in_order_from_sort held holds g.H.Ord.cmp sorted g.met.H.HoldsNetwork.held_order held_all
+    c.sort_unstable.ensures.sorted in
     let beside : ArePlacesUpTo w (map held list) (firsts held sorted) put (length sorted) =
-    subst (λ xs. ArePlacesUpTo w (map held list) (firsts held xs) put (length xs)) (front_taken sorted (drop n cut) n size) c.put_places.ensures.places in
-    made w holds held list c.args.ranges.now cut sorted c.args.places.now put n c.args.count.now fits room places_room written cuts c.sort_unstable.ensures.permutation order
+    subst (λ xs. ArePlacesUpTo w (map held list) (firsts held xs) put (length xs))
+    (front_taken sorted (drop n cut) n size) c.put_places.ensures.places in
+    made w holds held list c.args.ranges.now cut sorted c.args.places.now put n c.args.count.now fits room places_room
+    written cuts c.sort_unstable.ensures.permutation order
     (c.put_places.ensures.size ∙ length-take-le n c.args.places.now within) within
     (subst (λ (k : ℕ). ArePlacesUpTo w (map held list) (firsts held sorted) put k) size beside)

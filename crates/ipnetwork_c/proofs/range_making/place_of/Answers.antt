@@ -1,10 +1,4 @@
-use Rattle.std.proofs.Common.{◌≡◌, ℕ, inl, inr, ⊎_elim, map, arith}
-use Rattle.std.proofs.lemmas.List.{length-map}
-use Rattle.ipnetwork_c.specs.Ranges.{no_place}
-use Rattle.ipnetwork_c.specs.Tables.{IsTable, FindsLongest}
-use Rattle.ipnetwork_blocks.specs.Aggregate.{InUnion}
-use Rattle.ipnetwork_c.proofs.Truths.{fits_too}
-use Rattle.ipnetwork_c.proofs.Cutting.{placed}
+use Rattle.ipnetwork_c.proofs.Known.{◌≡◌, ℕ, inl, inr, ⊎_elim, map, arith, length-map, no_place, IsTable, FindsLongest, InUnion, fits_too, placed}
 use Rattle.ipnetwork_c.proofs.range_making.place_of.Goals as goal
 
 pub returns : goal.returns
@@ -17,4 +11,5 @@ returns g c =
     ⊎_elim
     (λ (f : FindsLongest w ns x c.find.new.place). let within = f.within in inl (omega arith, f))
     (λ (n : (c.find.new.place ≡ no_place) × (IsTable w ns → ¬ (InUnion w ns x))). inr n)
-    (placed w held c.args.blocks.now x (fits_too g.H.HoldsNetwork.holds held w g.met.H.Listed.fitting c.args.blocks.now c.requires) c.find.ensures)
+    (placed w held c.args.blocks.now x
+    (fits_too g.H.HoldsNetwork.holds held w g.met.H.Listed.fitting c.args.blocks.now c.requires) c.find.ensures)

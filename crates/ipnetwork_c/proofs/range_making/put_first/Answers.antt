@@ -1,6 +1,4 @@
-use Rattle.std.proofs.Common.{ℕ, ◌+◌, refl, ap, ◌∙◌}
-use Rattle.std.proofs.lemmas.Grind.{take-set_at}
-use Rattle.ipnetwork_c.proofs.Cutting.{alone_at, written_first}
+use Rattle.ipnetwork_c.proofs.Known.{ℕ, ◌+◌, refl, ap, ◌∙◌, take-set_at, alone_at, written_first}
 use Rattle.ipnetwork_c.proofs.range_making.put_first.Goals as goal
 
 pub returns-clause-written : goal.returns-clause-written

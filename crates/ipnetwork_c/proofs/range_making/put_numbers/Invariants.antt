@@ -1,5 +1,4 @@
-use Rattle.std.proofs.Common.{◌≡◌, ◌++◌, map, take, drop}
-use Rattle.ipnetwork_c.specs.Ranges.{number_at}
+use Rattle.ipnetwork_c.proofs.Known.{◌≡◌, ◌++◌, map, take, drop, number_at}
 use Rattle.ipnetwork_c.proofs.range_making.put_numbers.Given as goal
 
 abbrev pub invariant-loop-row : goal.invariant-loop-row

@@ -1,9 +1,4 @@
-use Rattle.std.proofs.Common.{ℕ, List, map, arith}
-use Rattle.ipnetwork_family.specs.Network.{Network}
-use Rattle.ipnetwork_c.specs.Outcomes.Unless.{On}
-use Rattle.ipnetwork_c.specs.Private.Kept.{kept_by}
-use Rattle.ipnetwork_c.proofs.BlocksPut.{too_many, all_put}
-use Rattle.ipnetwork_c.proofs.Truths.{fits_too}
+use Rattle.ipnetwork_c.proofs.Known.{ℕ, List, map, arith, Network, On, kept_by, too_many, all_put, fits_too}
 use Rattle.ipnetwork_c.proofs.set_operations.operate.Goals as goal
 
 pub returns-then-wanted-blocks : goal.returns-then-wanted-blocks
@@ -14,10 +9,18 @@ returns-then-wanted-blocks g c =
     let told = c.put_kept-wanted.ensures in
     let fit = fits_too g.H.HoldsNetwork.holds g.H.HoldsNetwork.held w g.met.H.Listed.fitting in
     On (
-      (fit _ (c.all_fit.ensures.0 c.if-not-all_fit.false), fit _ (c.all_fit-else-not-all_fit.ensures.0 c.if-not-all_fit-2.false)),
+      (
+        fit _ (c.all_fit.ensures.0 c.if-not-all_fit.false),
+        fit _ (c.all_fit-else-not-all_fit.ensures.0 c.if-not-all_fit-2.false),
+      ),
       On (
-        (c.is_address_set.ensures.0 c.if-not-is_address_set.false, c.is_address_set-else-not-is_address_set.ensures.0 c.if-not-is_address_set-2.false),
-        too_many w g.H.HoldsNetwork.held (kept_by c.args.operation w first second) c.args.blocks.now told.0 c.args.count.now c.put_kept-wanted.result c.to_usize.result told.1 told.2.counted (omega (arith, c.if-wanted-blocks.true)) c.to_usize.ensures,
+        (
+          c.is_address_set.ensures.0 c.if-not-is_address_set.false,
+          c.is_address_set-else-not-is_address_set.ensures.0 c.if-not-is_address_set-2.false,
+        ),
+        too_many w g.H.HoldsNetwork.held (kept_by c.args.operation w first second) c.args.blocks.now told.0
+            c.args.count.now c.put_kept-wanted.result c.to_usize.result told.1 told.2.counted
+            (omega (arith, c.if-wanted-blocks.true)) c.to_usize.ensures,
       ),
     )
 
@@ -30,10 +33,18 @@ returns g c =
     let put = c.put_kept.ensures in
     let fit = fits_too g.H.HoldsNetwork.holds g.H.HoldsNetwork.held w g.met.H.Listed.fitting in
     On (
-      (fit _ (c.all_fit.ensures.0 c.if-not-all_fit.false), fit _ (c.all_fit-else-not-all_fit.ensures.0 c.if-not-all_fit-2.false)),
+      (
+        fit _ (c.all_fit.ensures.0 c.if-not-all_fit.false),
+        fit _ (c.all_fit-else-not-all_fit.ensures.0 c.if-not-all_fit-2.false),
+      ),
       On (
-        (c.is_address_set.ensures.0 c.if-not-is_address_set.false, c.is_address_set-else-not-is_address_set.ensures.0 c.if-not-is_address_set-2.false),
-        all_put w g.H.HoldsNetwork.held (kept_by c.args.operation w first second) c.args.blocks.now c.put_kept.new.list told.0 put.0 c.args.count.now c.put_kept-wanted.result c.to_usize.result c.put_kept.result told.1 told.2.counted
+        (
+          c.is_address_set.ensures.0 c.if-not-is_address_set.false,
+          c.is_address_set-else-not-is_address_set.ensures.0 c.if-not-is_address_set-2.false,
+        ),
+        all_put w g.H.HoldsNetwork.held (kept_by c.args.operation w first second) c.args.blocks.now c.put_kept.new.list
+            told.0 put.0 c.args.count.now c.put_kept-wanted.result c.to_usize.result c.put_kept.result told.1
+            told.2.counted
             (omega (arith, c.if-wanted-blocks.false)) (omega arith) c.to_usize.ensures put.1 put.2,
       ),
     )

@@ -1,5 +1,4 @@
-use Rattle.std.proofs.Common.{refl}
-use Rattle.ipnetwork_c.specs.Outcomes.Unless.{On}
+use Rattle.ipnetwork_c.proofs.Known.{refl, On}
 use Rattle.ipnetwork_c.proofs.sizes.ipnetwork_v4_nth.Goals as goal
 
 pub returns-in-Some-nth : goal.returns-in-Some-nth

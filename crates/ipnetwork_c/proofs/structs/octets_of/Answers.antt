@@ -1,6 +1,4 @@
-use Rattle.std.proofs.Common.{ap, ◌∙◌}
-use Rattle.ipnetwork_addr.specs.Digits.{octets_of_v6}
-use Rattle.ipnetwork_c.proofs.HighFirst.{turned_halves}
+use Rattle.ipnetwork_c.proofs.Known.{ap, ◌∙◌, octets_of_v6, turned_halves}
 use Rattle.ipnetwork_c.proofs.structs.octets_of.Goals as goal
 
 pub returns : goal.returns

@@ -1,6 +1,4 @@
-use Rattle.std.proofs.Common.{ℕ, sym, subst, arith}
-use Rattle.ipnetwork_family.specs.Network.{Network, IsCidrBlock}
-use Rattle.ipnetwork_family.proofs.BlocksAt.{block_at_network}
+use Rattle.ipnetwork_c.proofs.Known.{ℕ, sym, subst, arith, Network, IsCidrBlock, block_at_network}
 use Rattle.ipnetwork_c.proofs.table_making.block_in.Goals as goal
 
 pub returns-clause-block : goal.returns-clause-block
@@ -8,4 +6,5 @@ returns-clause-block g c =
     let w : ℕ = g.N.CidrNetwork.WIDTH in
     let is = c.prefix.ensures.made in
     let fits = c.prefix.ensures.network.prefix_fits in
-    subst (λ (n : Network). IsCidrBlock w n) (sym c.block_at.ensures.made) (block_at_network w (g.N.CidrNetwork.number c.ip.result) c.prefix.result c.block_at.ensures.address (omega arith))
+    subst (λ (n : Network). IsCidrBlock w n) (sym c.block_at.ensures.made) (block_at_network w
+    (g.N.CidrNetwork.number c.ip.result) c.prefix.result c.block_at.ensures.address (omega arith))

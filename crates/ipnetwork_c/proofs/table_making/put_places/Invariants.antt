@@ -1,4 +1,4 @@
-use Rattle.std.proofs.Common.{◌≡◌, ℕ, ◌<◌, get_or}
+use Rattle.ipnetwork_c.proofs.Known.{◌≡◌, ℕ, ◌<◌, get_or}
 use Rattle.ipnetwork_c.proofs.table_making.put_places.Given as goal
 
 abbrev pub invariant-loop-place : goal.invariant-loop-place

@@ -1,6 +1,4 @@
-use Rattle.std.proofs.Common.{ℕ, List, map, rules}
-use Rattle.ipnetwork_family.specs.Network.{Network}
-use Rattle.ipnetwork_c.proofs.TableMaking.{sorted_by}
+use Rattle.ipnetwork_c.proofs.Known.{ℕ, List, map, rules, Network, sorted_by}
 use Rattle.ipnetwork_c.proofs.table_making.sort_places.Goals as goal
 
 pub returns-clause-sorted : goal.returns-clause-sorted

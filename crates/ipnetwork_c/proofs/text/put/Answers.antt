@@ -1,5 +1,4 @@
-use Rattle.std.proofs.Common.{◌<◌, length, arith}
-use Rattle.ipnetwork_c.proofs.Buffers.{zero_behind}
+use Rattle.ipnetwork_c.proofs.Known.{◌<◌, length, arith, zero_behind}
 use Rattle.ipnetwork_c.proofs.text.put.Goals as goal
 
 pub returns : goal.returns

@@ -1,5 +1,4 @@
-use Rattle.std.proofs.Common.{◌≡◌, true, false}
-use Rattle.ipnetwork_c.proofs.Offsets.{Rise, Fall, IsLast}
+use Rattle.ipnetwork_c.proofs.Known.{◌≡◌, true, false, Rise, Fall, IsLast}
 use Rattle.ipnetwork_c.proofs.text_columns.are_offsets.Given as goal
 
 abbrev pub invariant-loop-offset : goal.invariant-loop-offset

@@ -1,6 +1,4 @@
-use Rattle.std.proofs.Common.{map, arith}
-use Rattle.std.proofs.lemmas.List.{length-map}
-use Rattle.ipnetwork_c.proofs.Indexed.{ends_at}
+use Rattle.ipnetwork_c.proofs.Known.{map, arith, length-map, ends_at}
 use Rattle.ipnetwork_c.proofs.upper_bound.upper_bound_at_once.Goals as goal
 
 pub returns : goal.returns

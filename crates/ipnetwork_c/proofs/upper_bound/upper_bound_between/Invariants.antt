@@ -1,5 +1,4 @@
-use Rattle.std.proofs.Common.{◌+◌, ◌≤◌, length, map}
-use Rattle.ipnetwork_c.specs.Private.Sets.{IsBetween}
+use Rattle.ipnetwork_c.proofs.Known.{◌+◌, ◌≤◌, length, map, IsBetween}
 use Rattle.ipnetwork_c.proofs.upper_bound.upper_bound_between.Given as goal
 
 abbrev pub invariant-loop-count : goal.invariant-loop-count

@@ -1,6 +1,6 @@
-use Rattle.std.proofs.Common.{map}
-use Rattle.ipnetwork_c.specs.Private.Writing.{HasBlocks}
+use Rattle.ipnetwork_c.proofs.Known.{map, HasBlocks}
 use Rattle.ipnetwork_c.proofs.writing.put_blocks.Given as goal
 
 abbrev pub invariant-loop-block : goal.invariant-loop-block
-invariant-loop-block g l = HasBlocks g.H.HoldsNetwork.held (map g.N.CidrNetwork.pair l.yielded) l.initial.list l.list l.count
+invariant-loop-block g l = HasBlocks g.H.HoldsNetwork.held (map g.N.CidrNetwork.pair l.yielded) l.initial.list
+    l.list l.count

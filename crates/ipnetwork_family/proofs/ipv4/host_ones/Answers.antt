@@ -1,5 +1,4 @@
-use Rattle.std.proofs.Common.{◌/◌, ◌^◌, ap, ◌∙◌}
-use Rattle.std.proofs.lemmas.Nat.Bits.{ones_shr}
+use Rattle.ipnetwork_family.proofs.Known.{◌/◌, ◌^◌, ap, ◌∙◌, ones_shr}
 use Rattle.ipnetwork_family.proofs.ipv4.host_ones.Goals as goal
 
 pub returns : goal.returns

@@ -1,11 +1,4 @@
-use Rattle.std.proofs.Common.{◌≡◌, ℕ, ◌≤◌, ◌==◌, [], true, get_or, refl, ap, ◌∙◌, arith}
-use Rattle.std.specs.Cmp.Lexicographic.{pointwise}
-use Rattle.std.proofs.lemmas.Bool.{agree_below_at}
-use Rattle.std.proofs.lemmas.Bool.Decides.{Decides-eqb}
-use Rattle.std.proofs.lemmas.Slice.Eq.{slice_eq-Decides}
-use Rattle.ipnetwork_addr.specs.Digits.{segments_of}
-use Rattle.ipnetwork_family.specs.declared.mask_table.TheConstants.{MASKS}
-use Rattle.ipnetwork_family.specs.Network.{mask_of}
+use Rattle.ipnetwork_family.proofs.Known.{◌≡◌, ℕ, ◌≤◌, ◌==◌, [], true, get_or, refl, ap, ◌∙◌, arith, pointwise, agree_below_at, Decides-eqb, slice_eq-Decides, segments_of, MASKS, mask_of}
 use Rattle.ipnetwork_family.proofs.mask_table.mask_segments.Goals as goal
 
 -- each row of the table, by computing all of them

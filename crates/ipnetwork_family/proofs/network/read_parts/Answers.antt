@@ -1,7 +1,4 @@
-use Rattle.std.proofs.Common.{ℕ, sym, subst}
-use Rattle.std.proofs.lemmas.Result.{err_from_is_err_and}
-use Rattle.ipnetwork_family.proofs.Suffixes.{address_no_slash}
-use Rattle.ipnetwork_family.proofs.NetworkTexts.{slashes_name_nothing, no_address, no_prefix, named_by_parts}
+use Rattle.ipnetwork_family.proofs.Known.{ℕ, sym, subst, err_from_is_err_and, address_no_slash, slashes_name_nothing, no_address, no_prefix, named_by_parts}
 use Rattle.ipnetwork_family.proofs.network.read_parts.Goals as goal
 
 pub returns-in_err-address : goal.returns-in_err-address

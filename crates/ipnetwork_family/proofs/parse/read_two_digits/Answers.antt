@@ -1,5 +1,4 @@
-use Rattle.std.proofs.Common.{refl, arith}
-use Rattle.ipnetwork_family.proofs.Numerals.{is_digit, two_digits_named}
+use Rattle.ipnetwork_family.proofs.Known.{refl, arith, is_digit, two_digits_named}
 use Rattle.ipnetwork_family.proofs.parse.read_two_digits.Goals as goal
 
 pub returns-else-value-max : goal.returns-else-value-max

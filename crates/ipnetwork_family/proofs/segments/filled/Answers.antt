@@ -1,7 +1,4 @@
-use Rattle.std.proofs.Common.{◌≡◌, ◌-◌, ◌^◌, sym, ap, ap₂, ◌∙◌, arith, bit_or, List, ℕ}
-use Rattle.std.proofs.lemmas.List.{take_all, length-set}
-use Rattle.ipnetwork_addr.specs.Segments.{number_of_segments}
-use Rattle.ipnetwork_family.proofs.EightSegments.{filled_more, fits_more}
+use Rattle.ipnetwork_family.proofs.Known.{◌≡◌, ◌-◌, ◌^◌, sym, ap, ap₂, ◌∙◌, arith, bit_or, List, ℕ, take_all, length-set, number_of_segments, filled_more, fits_more}
 use Rattle.ipnetwork_family.proofs.segments.filled.Goals as goal
 
 pub loop-i-preserved : goal.loop-i-preserved

@@ -1,5 +1,4 @@
-use Rattle.std.proofs.Common.{◌≡◌, ◌-◌, ◌^◌, ◌<◌, length, take, bit_or}
-use Rattle.ipnetwork_addr.specs.Segments.{number_of_segments}
+use Rattle.ipnetwork_family.proofs.Known.{◌≡◌, ◌-◌, ◌^◌, ◌<◌, length, take, bit_or, number_of_segments}
 use Rattle.ipnetwork_family.proofs.segments.filled.Given as goal
 
 abbrev pub invariant-loop-i : goal.invariant-loop-i

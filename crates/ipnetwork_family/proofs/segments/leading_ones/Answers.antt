@@ -1,9 +1,4 @@
-use Rattle.std.proofs.Common.{◌+◌, ◌-◌, sym, ap, ap₂, ◌∙◌, arith, get_or}
-use Rattle.std.specs.List.{sum_by}
-use Rattle.std.specs.Int.Count.{count_leading_zeros}
-use Rattle.std.proofs.lemmas.List.{take_all}
-use Rattle.std.proofs.lemmas.List.Sums.{sum_by_more}
-use Rattle.std.proofs.lemmas.Nat.{leading_le}
+use Rattle.ipnetwork_family.proofs.Known.{◌+◌, ◌-◌, sym, ap, ap₂, ◌∙◌, arith, get_or, sum_by, count_leading_zeros, take_all, sum_by_more, leading_le}
 use Rattle.ipnetwork_family.proofs.segments.leading_ones.Goals as goal
 
 pub loop-i-preserved : goal.loop-i-preserved

@@ -1,6 +1,4 @@
-use Rattle.std.proofs.Common.{◌≡◌, ◌-◌, ◌*◌, ◌≤◌, take}
-use Rattle.std.specs.List.{sum_by}
-use Rattle.std.specs.Int.Count.{count_leading_zeros}
+use Rattle.ipnetwork_family.proofs.Known.{◌≡◌, ◌-◌, ◌*◌, ◌≤◌, take, sum_by, count_leading_zeros}
 use Rattle.ipnetwork_family.proofs.segments.leading_ones.Given as goal
 
 abbrev pub invariant-loop-i : goal.invariant-loop-i

@@ -1,4 +1,4 @@
-use Rattle.std.proofs.Common.{◌≡◌, ◌++◌, length}
+use Rattle.ipnetwork_index.proofs.Known.{◌≡◌, ◌++◌, length}
 use Rattle.ipnetwork_index.proofs.answers.entries_of.Given as goal
 
 abbrev pub invariant-listing : goal.invariant-listing

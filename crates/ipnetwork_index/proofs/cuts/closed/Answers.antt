@@ -1,7 +1,4 @@
-use Rattle.std.proofs.Common.{◌≡◌, ℕ, ◌+◌, ◌^◌, List, [], ◌∷◌, ◌++◌, map, sym, subst}
-use Rattle.std.proofs.lemmas.List.{map-append}
-use Rattle.ipnetwork_index.specs.Private.Cuts.{Closes}
-use Rattle.ipnetwork_index.proofs.Cutting.{closes_same, closes_pushed, whole_high}
+use Rattle.ipnetwork_index.proofs.Known.{◌≡◌, ℕ, ◌+◌, ◌^◌, List, [], ◌∷◌, ◌++◌, map, sym, subst, map-append, Closes, closes_same, closes_pushed, whole_high}
 use Rattle.ipnetwork_index.proofs.cuts.closed.Goals as goal
 
 pub returns-then-ends_whole : goal.returns-then-ends_whole

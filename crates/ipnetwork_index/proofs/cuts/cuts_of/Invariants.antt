@@ -1,6 +1,4 @@
-use Rattle.std.proofs.Common.{◌≡◌, ◌++◌, length, map}
-use Rattle.std.specs.List.{flat_map}
-use Rattle.ipnetwork_index.specs.Private.Cuts.{cuts_of}
+use Rattle.ipnetwork_index.proofs.Known.{◌≡◌, ◌++◌, length, map, flat_map, cuts_of}
 use Rattle.ipnetwork_index.proofs.cuts.cuts_of.Given as goal
 
 abbrev pub invariant-cutting : goal.invariant-cutting

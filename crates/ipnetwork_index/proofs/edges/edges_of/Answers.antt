@@ -1,7 +1,4 @@
-use Rattle.std.proofs.Common.{◌≡◌, ℕ, ◌++◌, ◌∙◌, ap, sym, map, arith}
-use Rattle.ipnetwork_family.specs.Network.{low}
-use Rattle.ipnetwork_index.specs.Private.Cuts.{before}
-use Rattle.ipnetwork_index.proofs.Edging.{next_taken, edges_put, mid_some, mid_none}
+use Rattle.ipnetwork_index.proofs.Known.{◌≡◌, ℕ, ◌++◌, ◌∙◌, ap, sym, map, arith, low, before, next_taken, edges_put, mid_some, mid_none}
 use Rattle.ipnetwork_index.proofs.edges.edges_of.Goals.{in-Some+in_ok-push, in_default}
 use Rattle.ipnetwork_index.proofs.edges.edges_of.Goals as goal
 

@@ -1,6 +1,4 @@
-use Rattle.std.proofs.Common.{◌≡◌, map, take}
-use Rattle.ipnetwork_table.specs.Table.{by_pair}
-use Rattle.ipnetwork_index.specs.Private.Edges.{edges_of}
+use Rattle.ipnetwork_index.proofs.Known.{◌≡◌, map, take, by_pair, edges_of}
 use Rattle.ipnetwork_index.proofs.edges.edges_of.Given as goal
 
 abbrev pub invariant-loop-entry : goal.invariant-loop-entry

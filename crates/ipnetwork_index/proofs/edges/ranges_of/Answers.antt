@@ -1,6 +1,4 @@
-use Rattle.std.proofs.Common.{map}
-use Rattle.std.proofs.lemmas.List.Filters.{dedup_is}
-use Rattle.ipnetwork_index.proofs.Edging.{each_once, all_cut_out}
+use Rattle.ipnetwork_index.proofs.Known.{map, dedup_is, each_once, all_cut_out}
 use Rattle.ipnetwork_index.proofs.edges.ranges_of.Goals as goal
 
 pub closed-requires : goal.closed-requires

@@ -1,6 +1,4 @@
-use Rattle.std.proofs.Common.{arith}
-use Rattle.std.proofs.lemmas.List.{length-map}
-use Rattle.ipnetwork_index.proofs.Halving.{all_last_more}
+use Rattle.ipnetwork_index.proofs.Known.{arith, length-map, all_last_more}
 use Rattle.ipnetwork_index.proofs.halves.all_end.Goals as goal
 
 pub loop-last-preserved : goal.loop-last-preserved

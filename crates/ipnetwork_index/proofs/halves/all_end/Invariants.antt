@@ -1,5 +1,4 @@
-use Rattle.std.proofs.Common.{ℕ, ◌<◌, map, get_or}
-use Rattle.ipnetwork_index.specs.Halves.{IsLastOf}
+use Rattle.ipnetwork_index.proofs.Known.{ℕ, ◌<◌, map, get_or, IsLastOf}
 use Rattle.ipnetwork_index.proofs.halves.all_end.Given as goal
 
 abbrev pub invariant-loop-last : goal.invariant-loop-last

@@ -1,4 +1,4 @@
-use Rattle.std.proofs.Common.{◌≡◌, map, take}
+use Rattle.ipnetwork_index.proofs.Known.{◌≡◌, map, take}
 use Rattle.ipnetwork_index.proofs.halves.highs_of.Given as goal
 
 abbrev pub invariant-loop-last : goal.invariant-loop-last

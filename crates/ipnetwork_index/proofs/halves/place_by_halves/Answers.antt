@@ -1,6 +1,4 @@
-use Rattle.std.proofs.Common.{ℕ, List, map}
-use Rattle.ipnetwork_index.proofs.Starting.{is_within}
-use Rattle.ipnetwork_index.proofs.Halving.{high_within, come_by_high, place_by_high}
+use Rattle.ipnetwork_index.proofs.Known.{ℕ, List, map, is_within, high_within, come_by_high, place_by_high}
 use Rattle.ipnetwork_index.proofs.halves.place_by_halves.Goals as goal
 
 pub place_of-at-requires-clause-within : goal.place_of-at-requires-clause-within

@@ -1,7 +1,4 @@
-use Rattle.std.proofs.Common.{◌↔◌, List, IsTrue, subst}
-use Rattle.std.specs.Bool.{one_answer}
-use Rattle.ipnetwork_family.specs.Network.{Network}
-use Rattle.ipnetwork_blocks.specs.Aggregate.{InUnion}
+use Rattle.ipnetwork_index.proofs.Known.{◌↔◌, List, IsTrue, subst, one_answer, Network, InUnion}
 use Rattle.ipnetwork_index.proofs.laws.set_and_index_agree.Goals as goal
 
 pub returns-clause-agree : goal.returns-clause-agree

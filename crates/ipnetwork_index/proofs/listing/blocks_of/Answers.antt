@@ -1,8 +1,4 @@
-use Rattle.std.proofs.Common.{map, arith}
-use Rattle.std.proofs.lemmas.List.{map_push}
-use Rattle.std.proofs.lemmas.List.Elements.{All-push}
-use Rattle.ipnetwork_family.specs.Network.{IsCidrBlock}
-use Rattle.ipnetwork_index.proofs.Edging.{next_taken}
+use Rattle.ipnetwork_index.proofs.Known.{map, arith, map_push, All-push, IsCidrBlock, next_taken}
 use Rattle.ipnetwork_index.proofs.listing.blocks_of.Goals as goal
 
 pub loop-network-preserved : goal.loop-network-preserved

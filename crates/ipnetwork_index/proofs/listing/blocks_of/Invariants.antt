@@ -1,6 +1,4 @@
-use Rattle.std.proofs.Common.{◌≡◌, map, take}
-use Rattle.std.specs.List.{All}
-use Rattle.ipnetwork_family.specs.Network.{IsCidrBlock, block_of}
+use Rattle.ipnetwork_index.proofs.Known.{◌≡◌, map, take, All, IsCidrBlock, block_of}
 use Rattle.ipnetwork_index.proofs.listing.blocks_of.Given as goal
 
 abbrev pub invariant-loop-network : goal.invariant-loop-network

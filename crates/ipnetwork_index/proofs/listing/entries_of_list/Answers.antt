@@ -1,7 +1,4 @@
-use Rattle.std.proofs.Common.{map}
-use Rattle.std.proofs.lemmas.List.Filters.{dedup_is}
-use Rattle.ipnetwork_table.specs.Table.{by_pair}
-use Rattle.ipnetwork_index.proofs.ListedBlocks.{made}
+use Rattle.ipnetwork_index.proofs.Known.{map, dedup_is, by_pair, made}
 use Rattle.ipnetwork_index.proofs.listing.entries_of_list.Goals as goal
 
 pub returns : goal.returns

@@ -1,5 +1,4 @@
-use Rattle.std.proofs.Common.{◌≡◌, map, take}
-use Rattle.ipnetwork_table.specs.Table.{by_pair}
+use Rattle.ipnetwork_index.proofs.Known.{◌≡◌, map, take, by_pair}
 use Rattle.ipnetwork_index.proofs.listing.with_value.Given as goal
 
 abbrev pub invariant-loop-block : goal.invariant-loop-block

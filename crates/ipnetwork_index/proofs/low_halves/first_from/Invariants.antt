@@ -1,5 +1,4 @@
-use Rattle.std.proofs.Common.{◌-◌}
-use Rattle.ipnetwork_index.specs.Private.LowHalves.{IsNarrowedTo}
+use Rattle.ipnetwork_index.proofs.Known.{◌-◌, IsNarrowedTo}
 use Rattle.ipnetwork_index.proofs.low_halves.first_from.Given as goal
 
 abbrev pub invariant-loop-at : goal.invariant-loop-at

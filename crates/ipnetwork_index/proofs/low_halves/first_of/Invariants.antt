@@ -1,5 +1,4 @@
-use Rattle.std.proofs.Common.{◌-◌, ◌≤◌, length}
-use Rattle.ipnetwork_index.specs.Private.LowHalves.{AreBefore}
+use Rattle.ipnetwork_index.proofs.Known.{◌-◌, ◌≤◌, length, AreBefore}
 use Rattle.ipnetwork_index.proofs.low_halves.first_of.Given as goal
 
 abbrev pub invariant-loop-at : goal.invariant-loop-at

@@ -1,6 +1,4 @@
-use Rattle.std.proofs.Common.{arith}
-use Rattle.std.proofs.lemmas.Simd.{length-chunk}
-use Rattle.ipnetwork_index.proofs.Eights.{marks_are, few_marks, run_of_less}
+use Rattle.ipnetwork_index.proofs.Known.{arith, length-chunk, marks_are, few_marks, run_of_less}
 use Rattle.ipnetwork_index.proofs.low_halves.less_of_eight.Goals as goal
 use lib.Lanes.{chunk}
 

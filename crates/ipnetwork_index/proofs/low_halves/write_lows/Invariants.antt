@@ -1,4 +1,4 @@
-use Rattle.std.proofs.Common.{◌≡◌, ℕ, ◌%◌, ◌<◌, get_or}
+use Rattle.ipnetwork_index.proofs.Known.{◌≡◌, ℕ, ◌%◌, ◌<◌, get_or}
 use Rattle.ipnetwork_index.proofs.low_halves.write_lows.Given as goal
 
 abbrev pub invariant-loop-place : goal.invariant-loop-place

@@ -1,4 +1,4 @@
-use Rattle.ipnetwork_index.specs.Private.LowHalves.{AreFirstsSoFar}
+use Rattle.ipnetwork_index.proofs.Known.{AreFirstsSoFar}
 use Rattle.ipnetwork_index.proofs.low_halves.write_starts.Given as goal
 
 abbrev pub invariant-loop-part : goal.invariant-loop-part

@@ -1,4 +1,4 @@
-use Rattle.std.proofs.Common.{◌≡◌, map, take}
+use Rattle.ipnetwork_index.proofs.Known.{◌≡◌, map, take}
 use Rattle.ipnetwork_index.proofs.partition.numbers_of.Given as goal
 
 abbrev pub invariant-loop-address : goal.invariant-loop-address

@@ -1,6 +1,4 @@
-use Rattle.std.proofs.Common.{map}
-use Rattle.std.proofs.lemmas.List.{map-append}
-use Rattle.ipnetwork_index.proofs.Starting.{pads}
+use Rattle.ipnetwork_index.proofs.Known.{map, map-append, pads}
 use Rattle.ipnetwork_index.proofs.partition.padded.Goals as goal
 
 pub returns : goal.returns

@@ -1,5 +1,4 @@
-use Rattle.std.proofs.Common.{◌≡◌, arith}
-use Rattle.ipnetwork_index.proofs.Lowering.{word_is, word_pushed}
+use Rattle.ipnetwork_index.proofs.Known.{◌≡◌, arith, word_is, word_pushed}
 use Rattle.ipnetwork_index.proofs.places.words_of.Goals as goal
 
 pub loop-address-preserved : goal.loop-address-preserved

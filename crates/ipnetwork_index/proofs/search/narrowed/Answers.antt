@@ -1,5 +1,4 @@
-use Rattle.std.proofs.Common.{arith}
-use Rattle.ipnetwork_index.proofs.Searching.{narrows, narrowed_to}
+use Rattle.ipnetwork_index.proofs.Known.{arith, narrows, narrowed_to}
 use Rattle.ipnetwork_index.proofs.search.narrowed.Goals as goal
 
 pub narrowing-preserved : goal.narrowing-preserved

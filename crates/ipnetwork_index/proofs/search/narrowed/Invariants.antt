@@ -1,5 +1,4 @@
-use Rattle.std.proofs.Common.{◌+◌, map}
-use Rattle.ipnetwork_index.specs.Private.Steps.{IsBetween}
+use Rattle.ipnetwork_index.proofs.Known.{◌+◌, map, IsBetween}
 use Rattle.ipnetwork_index.proofs.search.narrowed.Given as goal
 
 abbrev pub invariant-narrowing : goal.invariant-narrowing

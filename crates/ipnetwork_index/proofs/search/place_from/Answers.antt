@@ -1,4 +1,4 @@
-use Rattle.ipnetwork_index.proofs.Searching.{found, goes_past}
+use Rattle.ipnetwork_index.proofs.Known.{found, goes_past}
 use Rattle.ipnetwork_index.proofs.search.place_from.Goals as goal
 
 pub returns-then-below-lt4 : goal.returns-then-below-lt4

@@ -1,5 +1,4 @@
-use Rattle.std.proofs.Common.{arith}
-use Rattle.ipnetwork_index.proofs.Searching.{found, goes_past}
+use Rattle.ipnetwork_index.proofs.Known.{arith, found, goes_past}
 use Rattle.ipnetwork_index.proofs.search.place_from_start.Goals as goal
 
 pub place_in_part-requires-clause-come : goal.place_in_part-requires-clause-come

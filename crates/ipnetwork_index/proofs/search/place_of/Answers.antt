@@ -1,4 +1,4 @@
-use Rattle.ipnetwork_index.proofs.Searching.{begins}
+use Rattle.ipnetwork_index.proofs.Known.{begins}
 use Rattle.ipnetwork_index.proofs.search.place_of.Goals as goal
 
 pub place_from_start-requires-clause-come : goal.place_from_start-requires-clause-come

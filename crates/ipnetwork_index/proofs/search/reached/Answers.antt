@@ -1,6 +1,4 @@
-use Rattle.std.proofs.Common.{◌≡◌, ℕ, ◌+◌, ◌<◌, List, length, map, get_or, arith, sym, subst}
-use Rattle.std.proofs.lemmas.List.{length-map}
-use Rattle.ipnetwork_index.proofs.Searching.{reaches_past, read_number}
+use Rattle.ipnetwork_index.proofs.Known.{◌≡◌, ℕ, ◌+◌, ◌<◌, List, length, map, get_or, arith, sym, subst, length-map, reaches_past, read_number}
 use Rattle.ipnetwork_index.proofs.search.reached.Goals as goal
 
 pub reaching-preserved : goal.reaching-preserved

@@ -1,5 +1,4 @@
-use Rattle.std.proofs.Common.{◌-◌, length, map}
-use Rattle.ipnetwork_index.specs.Private.Steps.{HasComeTo}
+use Rattle.ipnetwork_index.proofs.Known.{◌-◌, length, map, HasComeTo}
 use Rattle.ipnetwork_index.proofs.search.reached.Given as goal
 
 abbrev pub invariant-reaching : goal.invariant-reaching

@@ -1,7 +1,4 @@
-use Rattle.std.proofs.Common.{◌≡◌, ℕ, ◌+◌, ◌*◌, List, length, map, get_or, arith}
-use Rattle.std.proofs.lemmas.List.{length-map}
-use Rattle.ipnetwork_index.specs.Private.Steps.{IsOneIfLess}
-use Rattle.ipnetwork_index.proofs.Searching.{four_step, read_number}
+use Rattle.ipnetwork_index.proofs.Known.{◌≡◌, ℕ, ◌+◌, ◌*◌, List, length, map, get_or, arith, length-map, IsOneIfLess, four_step, read_number}
 use Rattle.ipnetwork_index.proofs.simd_step.below_of_four.Goals as goal
 
 pub returns : goal.returns

@@ -1,6 +1,4 @@
-use Rattle.std.proofs.Common.{◌≤◌, ⊎_elim, arith}
-use Rattle.std.proofs.lemmas.Bool.{cases_lt}
-use Rattle.ipnetwork_index.proofs.PartCounts.{eight_in_each, eight_of_none, few_bits, has_bits, many_bits, two_in_each}
+use Rattle.ipnetwork_index.proofs.Known.{◌≤◌, ⊎_elim, arith, cases_lt, eight_in_each, eight_of_none, few_bits, has_bits, many_bits, two_in_each}
 use Rattle.ipnetwork_index.proofs.starts.low_shift.Goals as goal
 
 pub returns-clause-two : goal.returns-clause-two

@@ -1,5 +1,4 @@
-use Rattle.std.proofs.Common.{arith}
-use Rattle.ipnetwork_index.proofs.PartCounts.{few_bits, has_bits, many_bits, one_to_two, two_to_four}
+use Rattle.ipnetwork_index.proofs.Known.{arith, few_bits, has_bits, many_bits, one_to_two, two_to_four}
 use Rattle.ipnetwork_index.proofs.starts.part_bits.Goals as goal
 
 pub returns-then-bits-lt15-clause-few : goal.returns-then-bits-lt15-clause-few

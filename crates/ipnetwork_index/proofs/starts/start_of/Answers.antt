@@ -1,8 +1,4 @@
-use Rattle.std.proofs.Common.{◌≡◌, ℕ, List, length, map, get_or, arith}
-use Rattle.std.proofs.lemmas.List.{length-map}
-use Rattle.ipnetwork_index.specs.Parts.{IsPart}
-use Rattle.ipnetwork_index.proofs.Starting.{start_more}
-use Rattle.ipnetwork_index.proofs.Searching.{read_number}
+use Rattle.ipnetwork_index.proofs.Known.{◌≡◌, ℕ, List, length, map, get_or, arith, length-map, IsPart, start_more, read_number}
 use Rattle.ipnetwork_index.proofs.starts.start_of.Goals as goal
 
 pub loop-at-preserved : goal.loop-at-preserved

@@ -1,5 +1,4 @@
-use Rattle.std.proofs.Common.{◌-◌, length, map}
-use Rattle.ipnetwork_index.specs.Searches.{IsStart}
+use Rattle.ipnetwork_index.proofs.Known.{◌-◌, length, map, IsStart}
 use Rattle.ipnetwork_index.proofs.starts.start_of.Given as goal
 
 abbrev pub invariant-loop-at : goal.invariant-loop-at

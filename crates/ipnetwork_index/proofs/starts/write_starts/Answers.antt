@@ -1,5 +1,4 @@
-use Rattle.std.proofs.Common.{arith}
-use Rattle.ipnetwork_index.proofs.Starting.{starts_none, starts_more, all_started}
+use Rattle.ipnetwork_index.proofs.Known.{arith, starts_none, starts_more, all_started}
 use Rattle.ipnetwork_index.proofs.starts.write_starts.Goals as goal
 
 pub loop-part-init : goal.loop-part-init

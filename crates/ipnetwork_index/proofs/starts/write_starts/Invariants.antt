@@ -1,5 +1,4 @@
-use Rattle.std.proofs.Common.{map}
-use Rattle.ipnetwork_index.specs.Private.Steps.{AreStartsSoFar}
+use Rattle.ipnetwork_index.proofs.Known.{map, AreStartsSoFar}
 use Rattle.ipnetwork_index.proofs.starts.write_starts.Given as goal
 
 abbrev pub invariant-loop-part : goal.invariant-loop-part

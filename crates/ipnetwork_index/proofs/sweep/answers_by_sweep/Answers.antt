@@ -1,11 +1,4 @@
-use Rattle.std.proofs.Common.{◌≡◌, ℕ, ◌<◌, List, map, length, get_or, arith, subst}
-use Rattle.std.proofs.lemmas.List.{length-map}
-use Rattle.ipnetwork_table.specs.Table.{by_pair}
-use Rattle.ipnetwork_index.specs.Private.Answers.{AreAnswersUpTo}
-use Rattle.ipnetwork_index.specs.Private.Sweeps.{AreOpen}
-use Rattle.ipnetwork_index.proofs.Answering.{answers_more}
-use Rattle.ipnetwork_index.proofs.Searching.{read_number}
-use Rattle.ipnetwork_index.proofs.Sweeping.{open_later, open_places, swept_tells}
+use Rattle.ipnetwork_index.proofs.Known.{◌≡◌, ℕ, ◌<◌, List, map, length, get_or, arith, subst, length-map, by_pair, AreAnswersUpTo, AreOpen, answers_more, read_number, open_later, open_places, swept_tells}
 use Rattle.ipnetwork_index.proofs.sweep.answers_by_sweep.Goals as goal
 
 pub open_up_to-count-requires-clause-open : goal.open_up_to-count-requires-clause-open

@@ -1,6 +1,4 @@
-use Rattle.std.proofs.Common.{map}
-use Rattle.ipnetwork_table.specs.Table.{by_pair}
-use Rattle.ipnetwork_index.specs.Private.Sweeps.{AreSwept, OpenFrom}
+use Rattle.ipnetwork_index.proofs.Known.{map, by_pair, AreSwept, OpenFrom}
 use Rattle.ipnetwork_index.proofs.sweep.answers_by_sweep.Given as goal
 
 abbrev pub invariant-loop-last : goal.invariant-loop-last

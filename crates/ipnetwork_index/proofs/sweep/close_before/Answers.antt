@@ -1,7 +1,4 @@
-use Rattle.std.proofs.Common.{ℕ}
-use Rattle.ipnetwork_table.specs.Table.{by_pair}
-use Rattle.ipnetwork_index.proofs.Searching.{at_most, is_before, not_before}
-use Rattle.ipnetwork_index.proofs.Sweeping.{closes_popped, last_ends, places_popped, top_is, top_read, top_within}
+use Rattle.ipnetwork_index.proofs.Known.{ℕ, by_pair, at_most, is_before, not_before, closes_popped, last_ends, places_popped, top_is, top_read, top_within}
 use Rattle.ipnetwork_index.proofs.sweep.close_before.Goals as goal
 
 pub bounds-entries-place : goal.bounds-entries-place

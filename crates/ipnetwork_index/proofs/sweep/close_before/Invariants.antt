@@ -1,6 +1,4 @@
-use Rattle.std.proofs.Common.{length}
-use Rattle.ipnetwork_table.specs.Table.{by_pair}
-use Rattle.ipnetwork_index.specs.Private.Sweeps.{ArePlaces, KeepsOpen}
+use Rattle.ipnetwork_index.proofs.Known.{length, by_pair, ArePlaces, KeepsOpen}
 use Rattle.ipnetwork_index.proofs.sweep.close_before.Given as goal
 
 abbrev pub invariant-closing : goal.invariant-closing

@@ -1,6 +1,4 @@
-use Rattle.std.proofs.Common.{◌≡◌, ℕ, ◌-◌, Some, length, sym, ◌∙◌, slice_get}
-use Rattle.ipnetwork_table.specs.Table.{by_pair}
-use Rattle.ipnetwork_index.proofs.Sweeping.{entry_read, innermost_is, top_within}
+use Rattle.ipnetwork_index.proofs.Known.{◌≡◌, ℕ, ◌-◌, Some, length, sym, ◌∙◌, slice_get, by_pair, entry_read, innermost_is, top_within}
 use Rattle.ipnetwork_index.proofs.sweep.innermost.Goals as goal
 
 pub returns-in-Some : goal.returns-in-Some

@@ -1,8 +1,4 @@
-use Rattle.std.proofs.Common.{ℕ, ◌<◌, length, arith}
-use Rattle.std.proofs.lemmas.Option.{slice_get_within}
-use Rattle.ipnetwork_table.specs.Table.{by_pair}
-use Rattle.ipnetwork_index.proofs.Chains.{few_open, room_for_next}
-use Rattle.ipnetwork_index.proofs.Sweeping.{entries_length, opens_next}
+use Rattle.ipnetwork_index.proofs.Known.{ℕ, ◌<◌, length, arith, slice_get_within, by_pair, few_open, room_for_next, entries_length, opens_next}
 use Rattle.ipnetwork_index.proofs.sweep.open_up_to.Goals as goal
 
 pub push-requires : goal.push-requires

@@ -1,6 +1,4 @@
-use Rattle.std.proofs.Common.{◌-◌, length}
-use Rattle.ipnetwork_table.specs.Table.{by_pair}
-use Rattle.ipnetwork_index.specs.Private.Sweeps.{AreOpen}
+use Rattle.ipnetwork_index.proofs.Known.{◌-◌, length, by_pair, AreOpen}
 use Rattle.ipnetwork_index.proofs.sweep.open_up_to.Given as goal
 
 abbrev pub invariant-opening : goal.invariant-opening

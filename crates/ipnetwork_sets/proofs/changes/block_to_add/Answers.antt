@@ -1,4 +1,4 @@
-use Rattle.std.proofs.lemmas.Bool.{iff_false}
+use Rattle.ipnetwork_sets.proofs.Known.{iff_false}
 use Rattle.ipnetwork_sets.proofs.changes.block_to_add.Goals as goal
 
 pub returns-then-covers : goal.returns-then-covers
@@ -12,4 +12,9 @@ join_around-requires g c = record {
 }
 
 pub returns : goal.returns
-returns g c = (iff_false c.covers.ensures c.if-covers.false, c.join_around.ensures.ordered, c.join_around.ensures.within, c.join_around.ensures.joined)
+returns g c = (
+  iff_false c.covers.ensures c.if-covers.false,
+  c.join_around.ensures.ordered,
+  c.join_around.ensures.within,
+  c.join_around.ensures.joined,
+)

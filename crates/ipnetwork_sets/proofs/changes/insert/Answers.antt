@@ -1,17 +1,10 @@
-use Rattle.std.proofs.Common.{ℕ, List, [], ◌∷◌, map, sym, refl, subst, arith}
-use Rattle.std.proofs.lemmas.List.{length-map}
-use Rattle.ipnetwork_family.specs.Network.{Network}
-use Rattle.ipnetwork_blocks.specs.LeastList.{IsLeastList}
-use Rattle.ipnetwork_sets.specs.Sets.{InEither}
-use Rattle.ipnetwork_sets.proofs.Changed.{nothing_added, added_is_set, grew_by_one}
-use Rattle.ipnetwork_sets.proofs.CollectedBlocks.{failed}
-use Rattle.ipnetwork_sets.proofs.Lists.{refused}
-use Rattle.ipnetwork_sets.proofs.RoomMade.{one_written}
+use Rattle.ipnetwork_sets.proofs.Known.{ℕ, List, [], ◌∷◌, map, sym, refl, subst, arith, length-map, Network, IsLeastList, InEither, nothing_added, added_is_set, grew_by_one, failed, refused, one_written}
 use Rattle.ipnetwork_sets.proofs.changes.insert.Goals as goal
 
 pub returns-in_default-clause-set : goal.returns-in_default-clause-set
 returns-in_default-clause-set g c =
-    nothing_added g.N.CidrNetwork.WIDTH (map g.N.CidrNetwork.pair c.args.blocks.now.items) (g.N.CidrNetwork.pair c.args.network) c.requires
+    nothing_added g.N.CidrNetwork.WIDTH (map g.N.CidrNetwork.pair c.args.blocks.now.items)
+    (g.N.CidrNetwork.pair c.args.network) c.requires
     (rw c.as_slice.ensures.value at c.in_default.ensures)
 
 pub returns-in_default-clause-added : goal.returns-in_default-clause-added
@@ -28,7 +21,8 @@ returns-in_err-make_room-clause-room g c = λ list h.
     let ordered = found.1 in
     let within = found.2 in
     failed c.from_residual.result
-    (grew_by_one w (InEither w bs (g.N.CidrNetwork.pair c.args.network ∷ [])) bs list c.in-Some.found.0 c.in-Some.found.1 (g.N.CidrNetwork.pair c.in-Some.found.2)
+    (grew_by_one w (InEither w bs (g.N.CidrNetwork.pair c.args.network ∷ [])) bs list c.in-Some.found.0
+    c.in-Some.found.1 (g.N.CidrNetwork.pair c.in-Some.found.2)
     ordered (omega (arith, within, size)) found.3 h c.in_err-make_room.ensures.room)
 
 pub returns-clause-set : goal.returns-clause-set
@@ -37,7 +31,8 @@ returns-clause-set g c =
     let bs : List Network = map g.N.CidrNetwork.pair c.args.blocks.now.items in
     let found = rw c.as_slice.ensures.value at c.in-Some.ensures in
     subst (λ (l : List Network). IsLeastList w (InEither w bs (g.N.CidrNetwork.pair c.args.network ∷ [])) l)
-    (sym (one_written g.N.CidrNetwork.pair c.args.blocks.now.items c.make_room.new.blocks.items c.in-Some.found.0 c.in-Some.found.1 c.in-Some.found.2 found.1 found.2 c.in_ok-make_room.ensures.made))
+    (sym (one_written g.N.CidrNetwork.pair c.args.blocks.now.items c.make_room.new.blocks.items c.in-Some.found.0
+    c.in-Some.found.1 c.in-Some.found.2 found.1 found.2 c.in_ok-make_room.ensures.made))
     found.3
 
 pub returns-clause-added : goal.returns-clause-added
@@ -53,5 +48,6 @@ returns-clause-blocks g c =
     let found = rw c.as_slice.ensures.value at c.in-Some.ensures in
     added_is_set w bs n _
     (subst (λ (l : List Network). IsLeastList w (InEither w bs (n ∷ [])) l)
-    (sym (one_written g.N.CidrNetwork.pair c.args.blocks.now.items c.make_room.new.blocks.items c.in-Some.found.0 c.in-Some.found.1 c.in-Some.found.2 found.1 found.2 c.in_ok-make_room.ensures.made))
+    (sym (one_written g.N.CidrNetwork.pair c.args.blocks.now.items c.make_room.new.blocks.items c.in-Some.found.0
+    c.in-Some.found.1 c.in-Some.found.2 found.1 found.2 c.in_ok-make_room.ensures.made))
     found.3)

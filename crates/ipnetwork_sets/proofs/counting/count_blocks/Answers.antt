@@ -1,9 +1,4 @@
-use Rattle.std.proofs.Common.{◌≡◌, ◌+◌, ◌++◌, ◌∷◌, [], ℕ, List, map, take, sym, ap, ◌∙◌, arith}
-use Rattle.std.proofs.lemmas.List.{length-map, take_more}
-use Rattle.ipnetwork_family.specs.Network.{Network}
-use Rattle.ipnetwork_sets.specs.Counts.{count_number}
-use Rattle.ipnetwork_sets.proofs.Lists.{read_pair}
-use Rattle.ipnetwork_sets.proofs.Totals.{counts_more}
+use Rattle.ipnetwork_sets.proofs.Known.{◌≡◌, ◌+◌, ◌++◌, ◌∷◌, [], ℕ, List, map, take, sym, ap, ◌∙◌, arith, length-map, take_more, Network, count_number, read_pair, counts_more}
 use Rattle.ipnetwork_sets.proofs.counting.count_blocks.Goals as goal
 
 pub loop-block-preserved : goal.loop-block-preserved
@@ -14,5 +9,7 @@ loop-block-preserved g c =
     let i : ℕ = c.loop-block.block-index in
     let b : Network = g.N.CidrNetwork.pair c.block-item.result in
     let is = read_pair g.N.CidrNetwork.pair c.args.blocks.now i c.block-item.result (omega arith) c.block-item.is in
-    let longer : take (i + 1) ns ≡ take i ns ++ b ∷ [] = take_more ns i b (omega arith) ∙ ap (λ n. take i ns ++ n ∷ []) (sym is) in
-    counts_more w (count_number c.loop-block.count) (count_number c.add_block-count.result) (take i ns) (take (i + 1) ns) b c.loop-block.invariant longer c.add_block-count.ensures
+    let longer : take (i + 1) ns ≡ take i ns ++ b ∷ [] = take_more ns i b (omega arith)
+    ∙ ap (λ n. take i ns ++ n ∷ []) (sym is) in
+    counts_more w (count_number c.loop-block.count) (count_number c.add_block-count.result) (take i ns)
+    (take (i + 1) ns) b c.loop-block.invariant longer c.add_block-count.ensures

@@ -1,7 +1,4 @@
-use Rattle.std.proofs.Common.{◌≡◌, ◌∷◌, length, map, ap, sym, ◌∙◌, arith}
-use Rattle.std.proofs.lemmas.List.Elements.{All-rest}
-use Rattle.ipnetwork_family.specs.Network.{Network}
-use Rattle.ipnetwork_sets.proofs.Lists.{no_items}
+use Rattle.ipnetwork_sets.proofs.Known.{◌≡◌, ◌∷◌, length, map, ap, sym, ◌∙◌, arith, All-rest, Network, no_items}
 use Rattle.ipnetwork_sets.proofs.held.split_held.Goals as goal
 
 pub returns : goal.returns

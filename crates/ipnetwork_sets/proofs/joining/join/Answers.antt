@@ -1,6 +1,4 @@
-use Rattle.std.proofs.Common.{arith}
-use Rattle.std.proofs.lemmas.Bool.{iff_false}
-use Rattle.ipnetwork_blocks.proofs.WiderBlocks.{parent_made}
+use Rattle.ipnetwork_sets.proofs.Known.{arith, iff_false, parent_made}
 use Rattle.ipnetwork_sets.proofs.joining.join.Goals as goal
 
 pub returns-then-not-are_halves : goal.returns-then-not-are_halves
@@ -20,6 +18,7 @@ block_at-requires g c =
 pub returns : goal.returns
 returns g c = (
   c.are_halves.ensures.0 c.if-not-are_halves.false,
-  parent_made g.N.CidrNetwork.WIDTH (g.N.CidrNetwork.number c.ip.result) c.prefix.result (g.N.CidrNetwork.pair c.args.first) (g.N.CidrNetwork.pair c.block_at.result)
+  parent_made g.N.CidrNetwork.WIDTH (g.N.CidrNetwork.number c.ip.result) c.prefix.result
+      (g.N.CidrNetwork.pair c.args.first) (g.N.CidrNetwork.pair c.block_at.result)
       c.ip.ensures.made c.prefix.ensures.made c.block_at.ensures.made,
 )

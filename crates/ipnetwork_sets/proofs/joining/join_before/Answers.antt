@@ -1,8 +1,4 @@
-use Rattle.std.proofs.Common.{◌-◌, List, map, arith}
-use Rattle.std.proofs.lemmas.List.{length-map}
-use Rattle.ipnetwork_family.specs.Network.{Network}
-use Rattle.ipnetwork_sets.proofs.JoinedAround.{told_before}
-use Rattle.ipnetwork_sets.proofs.Lists.{read_pair}
+use Rattle.ipnetwork_sets.proofs.Known.{◌-◌, List, map, arith, length-map, Network, told_before, read_pair}
 use Rattle.ipnetwork_sets.proofs.joining.join_before.Goals as goal
 
 pub returns-then-first-eq0 : goal.returns-then-first-eq0
@@ -14,5 +10,7 @@ returns g c =
     let size = length-map c.args.blocks.now g.N.CidrNetwork.pair in
     let fits = c.requires in
     let t : Network = g.N.CidrNetwork.pair c.index-blocks-first.result in
-    let is = read_pair g.N.CidrNetwork.pair c.args.blocks.now (c.args.first - 1) c.index-blocks-first.result (omega (arith, fits)) c.index-blocks-first.is in
-    told_before g.N.CidrNetwork.pair g.N.CidrNetwork.WIDTH bs c.args.first t (g.N.CidrNetwork.pair c.args.block) c.join.result (omega arith) (omega (arith, size, fits)) is c.join.ensures
+    let is = read_pair g.N.CidrNetwork.pair c.args.blocks.now (c.args.first - 1) c.index-blocks-first.result
+    (omega (arith, fits)) c.index-blocks-first.is in
+    told_before g.N.CidrNetwork.pair g.N.CidrNetwork.WIDTH bs c.args.first t (g.N.CidrNetwork.pair c.args.block)
+    c.join.result (omega arith) (omega (arith, size, fits)) is c.join.ensures

@@ -1,8 +1,4 @@
-use Rattle.std.proofs.Common.{List, map, arith}
-use Rattle.std.proofs.lemmas.List.{length-map}
-use Rattle.ipnetwork_family.specs.Network.{Network}
-use Rattle.ipnetwork_sets.proofs.JoinedAround.{told_behind}
-use Rattle.ipnetwork_sets.proofs.Lists.{read_pair}
+use Rattle.ipnetwork_sets.proofs.Known.{List, map, arith, length-map, Network, told_behind, read_pair}
 use Rattle.ipnetwork_sets.proofs.joining.join_behind.Goals as goal
 
 pub returns-then-behind-blocks : goal.returns-then-behind-blocks
@@ -15,5 +11,7 @@ returns g c =
     let bs : List Network = map g.N.CidrNetwork.pair c.args.blocks.now in
     let size = length-map c.args.blocks.now g.N.CidrNetwork.pair in
     let t : Network = g.N.CidrNetwork.pair c.index-blocks-behind.result in
-    let is = read_pair g.N.CidrNetwork.pair c.args.blocks.now c.args.behind c.index-blocks-behind.result (omega arith) c.index-blocks-behind.is in
-    told_behind g.N.CidrNetwork.pair g.N.CidrNetwork.WIDTH bs c.args.behind (g.N.CidrNetwork.pair c.args.block) t c.join.result (omega (arith, size)) is c.join.ensures
+    let is = read_pair g.N.CidrNetwork.pair c.args.blocks.now c.args.behind c.index-blocks-behind.result (omega arith)
+    c.index-blocks-behind.is in
+    told_behind g.N.CidrNetwork.pair g.N.CidrNetwork.WIDTH bs c.args.behind (g.N.CidrNetwork.pair c.args.block) t
+    c.join.result (omega (arith, size)) is c.join.ensures

@@ -1,4 +1,4 @@
-use Rattle.ipnetwork_sets.proofs.FewerBlocks.{set_has_fewer_blocks}
+use Rattle.ipnetwork_sets.proofs.Known.{set_has_fewer_blocks}
 use Rattle.ipnetwork_sets.proofs.laws.fewer_blocks.Goals as goal
 
 pub returns : goal.returns

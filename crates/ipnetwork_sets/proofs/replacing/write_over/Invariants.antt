@@ -1,5 +1,4 @@
-use Rattle.std.proofs.Common.{length}
-use Rattle.ipnetwork_sets.proofs.RoomMade.{IsWriting}
+use Rattle.ipnetwork_sets.proofs.Known.{length, IsWriting}
 use Rattle.ipnetwork_sets.proofs.replacing.write_over.Given as goal
 
 abbrev pub invariant-loop-next : goal.invariant-loop-next

@@ -1,15 +1,16 @@
-use Rattle.std.proofs.Common.{map}
-use Rattle.ipnetwork_sets.proofs.Lists.{refused}
-use Rattle.ipnetwork_sets.proofs.Searched.{covers_by_last, covers_none}
+use Rattle.ipnetwork_sets.proofs.Known.{map, refused, covers_by_last, covers_none}
 use Rattle.ipnetwork_sets.proofs.search.covers.Goals as goal
 
 pub returns-in-Some : goal.returns-in-Some
 returns-in-Some g c =
-    let by = covers_by_last g.N.CidrNetwork.WIDTH (map g.N.CidrNetwork.pair c.args.blocks.now) c.one_block.ensures.one c.requires (g.N.CidrNetwork.pair c.args.network)
-    (g.N.CidrNetwork.pair c.in-Some.block) c.one_block.ensures.networks c.ip.ensures.network (rw c.network.ensures at c.in-Some.ensures) in
+    let by = covers_by_last g.N.CidrNetwork.WIDTH (map g.N.CidrNetwork.pair c.args.blocks.now) c.one_block.ensures.one
+    c.requires (g.N.CidrNetwork.pair c.args.network)
+    (g.N.CidrNetwork.pair c.in-Some.block) c.one_block.ensures.networks c.ip.ensures.network
+    (rw c.network.ensures at c.in-Some.ensures) in
     ((λ t. by.0 (c.is_subnet_of.ensures.0 t)), (λ u. c.is_subnet_of.ensures.1 (by.1 u)))
 
 pub returns-in-None : goal.returns-in-None
 returns-in-None g c =
-    refused (covers_none g.N.CidrNetwork.WIDTH (map g.N.CidrNetwork.pair c.args.blocks.now) c.one_block.ensures.one c.requires (g.N.CidrNetwork.pair c.args.network) c.ip.ensures.network
+    refused (covers_none g.N.CidrNetwork.WIDTH (map g.N.CidrNetwork.pair c.args.blocks.now) c.one_block.ensures.one
+    c.requires (g.N.CidrNetwork.pair c.args.network) c.ip.ensures.network
     (rw c.network.ensures at c.in-None.ensures))

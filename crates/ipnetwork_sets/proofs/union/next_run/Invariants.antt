@@ -1,7 +1,4 @@
-use Rattle.std.proofs.Common.{◌+◌, length, map}
-use Rattle.std.specs.List.{All}
-use Rattle.ipnetwork_family.specs.Network.{low}
-use Rattle.ipnetwork_sets.specs.Private.Together.{IsGrowing}
+use Rattle.ipnetwork_sets.proofs.Known.{◌+◌, length, map, All, low, IsGrowing}
 use Rattle.ipnetwork_sets.proofs.union.next_run.Given as goal
 
 abbrev pub invariant-loop-next : goal.invariant-loop-next

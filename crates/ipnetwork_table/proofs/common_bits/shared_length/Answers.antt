@@ -1,6 +1,4 @@
-use Rattle.std.proofs.Common.{arith, ◌-◌, ◌/◌, subst}
-use Rattle.ipnetwork_family.specs.Network.{Member, block_at}
-use Rattle.ipnetwork_table.proofs.Nearest.{share_less}
+use Rattle.ipnetwork_table.proofs.Known.{arith, ◌-◌, ◌/◌, subst, Member, block_at, share_less}
 use Rattle.ipnetwork_table.proofs.common_bits.shared_length.Goals as goal
 
 pub halves-preserved : goal.halves-preserved

@@ -1,5 +1,4 @@
-use Rattle.std.proofs.Common.{◌≡◌, ◌-◌, ◌≤◌, length, drop}
-use Rattle.line_addresses.specs.Following.{following}
+use Rattle.line_addresses.proofs.Known.{◌≡◌, ◌-◌, ◌≤◌, length, drop, following}
 use Rattle.line_addresses.proofs.first_position.following.Given as goal
 
 abbrev pub invariant-positions : goal.invariant-positions

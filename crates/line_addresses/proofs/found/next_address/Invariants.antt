@@ -1,5 +1,4 @@
-use Rattle.std.proofs.Common.{◌≡◌, ◌-◌, ◌≤◌, length, drop}
-use Rattle.line_addresses.specs.Addresses.{addresses_of}
+use Rattle.line_addresses.proofs.Known.{◌≡◌, ◌-◌, ◌≤◌, length, drop, addresses_of}
 use Rattle.line_addresses.proofs.found.next_address.Given as goal
 
 abbrev pub invariant-runs : goal.invariant-runs

@@ -1,4 +1,4 @@
-use Rattle.line_addresses.proofs.FirstBytes.{none_in}
+use Rattle.line_addresses.proofs.Known.{none_in}
 use Rattle.line_addresses.proofs.laws.begins_no_address.Goals as goal
 
 pub returns : goal.returns

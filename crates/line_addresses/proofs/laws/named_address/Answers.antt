@@ -1,9 +1,4 @@
-use Rattle.std.proofs.Common.{ap, sym}
-use Rattle.std.specs.Prelude.{Ok}
-use Rattle.ipnetwork_addr.specs.Computed.Either.{ip_of}
-use Rattle.ipnetwork_addr.specs.Computed.Reading.{answer_from}
-use Rattle.line_addresses.specs.Addresses.{address_of}
-use Rattle.line_addresses.proofs.FirstBytes.{named_by_answer}
+use Rattle.line_addresses.proofs.Known.{ap, sym, Ok, ip_of, answer_from, address_of, named_by_answer}
 use Rattle.line_addresses.proofs.laws.named_address.Goals as goal
 
 pub returns : goal.returns

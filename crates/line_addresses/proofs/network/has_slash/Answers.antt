@@ -1,4 +1,4 @@
-use Rattle.line_addresses.proofs.StretchNetworks.{slash_at, no_slash}
+use Rattle.line_addresses.proofs.Known.{slash_at, no_slash}
 use Rattle.line_addresses.proofs.network.has_slash.Goals as goal
 
 pub returns-in-Some : goal.returns-in-Some

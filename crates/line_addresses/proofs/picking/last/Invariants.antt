@@ -1,7 +1,4 @@
-use Rattle.std.proofs.Common.{◌-◌, ◌≤◌, length}
-use Rattle.std.specs.Prelude.{IfSome}
-use Rattle.line_addresses.specs.Networks.{found_of}
-use Rattle.line_addresses.proofs.Picks.{IsLast, Lies}
+use Rattle.line_addresses.proofs.Known.{◌-◌, ◌≤◌, length, IfSome, found_of, IsLast, Lies}
 use Rattle.line_addresses.proofs.picking.last.Given as goal
 
 abbrev pub invariant-addresses : goal.invariant-addresses

@@ -1,6 +1,4 @@
-use Rattle.std.proofs.Common.{◌≡◌, drop}
-use Rattle.std.specs.List.{list_all}
-use Rattle.std.specs.Char.{is_ascii_digit}
+use Rattle.line_addresses.proofs.Known.{◌≡◌, drop, list_all, is_ascii_digit}
 use Rattle.line_addresses.proofs.port.are_digits.Given as goal
 
 abbrev pub invariant-loop-byte : goal.invariant-loop-byte

@@ -1,5 +1,4 @@
-use Rattle.std.proofs.Common.{◌≡◌, ◌-◌, ◌≤◌, length, drop}
-use Rattle.line_addresses.specs.Networks.{networks_of}
+use Rattle.line_addresses.proofs.Known.{◌≡◌, ◌-◌, ◌≤◌, length, drop, networks_of}
 use Rattle.line_addresses.proofs.stretches.next_network.Given as goal
 
 abbrev pub invariant-stretches : goal.invariant-stretches

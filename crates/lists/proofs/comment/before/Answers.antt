@@ -1,4 +1,4 @@
-use Rattle.lists.proofs.Trims.{none_before, found_before}
+use Rattle.lists.proofs.Known.{none_before, found_before}
 use Rattle.lists.proofs.comment.before.Goals as goal
 
 pub returns-in-Some : goal.returns-in-Some

@@ -1,6 +1,4 @@
-use Rattle.std.proofs.Common.{◌==◌, ◌∙◌, ap}
-use Rattle.std.specs.List.{before_first}
-use Rattle.lists.proofs.Trims.{before_either}
+use Rattle.lists.proofs.Known.{◌==◌, ◌∙◌, ap, before_first, before_either}
 use Rattle.lists.proofs.comment.without_comment.Goals as goal
 
 pub returns : goal.returns

@@ -1,13 +1,10 @@
-use Rattle.std.proofs.Common.{◌≢◌, ◌∙◌, ap, subst, []}
-use Rattle.lists.specs.Entries.{IsEntryCause, NamesEntry}
-use Rattle.lists.specs.declared.entry.Entry.{Entry}
-use Rattle.lists.specs.Lines.{trimmed}
-use Rattle.lists.proofs.Parts.{not_empty}
+use Rattle.lists.proofs.Known.{◌≢◌, ◌∙◌, ap, subst, [], IsEntryCause, NamesEntry, Entry, trimmed, not_empty}
 use Rattle.lists.proofs.entry.read_line.Goals as goal
 
 pub returns-in-Err : goal.returns-in-Err
 returns-in-Err c =
     let whole = c.trim-text.ensures ∙ ap trimmed c.without_comment.ensures in
-    let refused = subst (λ text. IsEntryCause text c.in-Err.fault × ((entry : Entry) → ¬ (NamesEntry text entry))) whole c.in-Err.ensures in
+    let refused = subst (λ text. IsEntryCause text c.in-Err.fault × ((entry : Entry) → ¬ (NamesEntry text entry))) whole
+    c.in-Err.ensures in
     let some = subst (λ text. text ≢ []) whole (not_empty c.trim-text.result.now (c.if-is_empty.ensures)) in
     (some, refused.0, refused.1)

@@ -1,7 +1,4 @@
-use Rattle.std.proofs.Common.{◌∙◌, ap}
-use Rattle.std.specs.Prelude.{Option}
-use Rattle.lists.specs.Entries.{told_cause}
-use Rattle.lists.specs.declared.encoding.Encoding.{Encoding}
+use Rattle.lists.proofs.Known.{◌∙◌, ap, Option, told_cause, Encoding}
 use Rattle.lists.proofs.entry.read_text.Goals as goal
 
 pub returns-in-Err : goal.returns-in-Err

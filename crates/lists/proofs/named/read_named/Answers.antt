@@ -1,8 +1,5 @@
-use Rattle.std.proofs.Common.{◌∙◌, Bool, ap}
+use Rattle.lists.proofs.Known.{◌∙◌, Bool, ap, ended_by_read, device_of, read_stopped}
 use Rattle.std.specs.Prelude.{◌||◌}
-use Rattle.lines.specs.Faults.{ended_by_read}
-use Rattle.lines.specs.Watched.{device_of}
-use Rattle.lists.proofs.NamedLists.{read_stopped}
 use Rattle.lists.proofs.named.read_named.Goals as goal
 
 pub returns-clause-stopped : goal.returns-clause-stopped
@@ -12,5 +9,6 @@ returns-clause-stopped g c =
     read_stopped (g.L.OpenLists.known c.args.lists.now) c.args.place c.args.name.now c.args.reader.now
     c.read_list-read.new.lists (remaining (device_of c.in-Ok.list)) _ c.in-Ok.ensures.opened c.in-Ok.ensures.bytes
     read c.is_out_of_memory.result c.end_of.result c.end_of.ensures
-    (λ ended. c.close.ensures.failed (c.read_list-read.ensures.failed ∙ ap (λ (b : Bool). b || ended_by_read read) c.in-Ok.ensures.failed ∙ ended))
+    (λ ended. c.close.ensures.failed (c.read_list-read.ensures.failed
+    ∙ ap (λ (b : Bool). b || ended_by_read read) c.in-Ok.ensures.failed ∙ ended))
     c.read_list-read.ensures.taken c.read_list-read.ensures.stopped c.is_out_of_memory.ensures

@@ -1,5 +1,4 @@
-use Rattle.std.specs.Prelude.{map}
-use Rattle.lists.specs.Lists.{at_list, TakesLines}
+use Rattle.lists.proofs.Known.{map, at_list, TakesLines}
 use Rattle.lists.proofs.read.take_text.Given as goal
 
 abbrev pub invariant-loop-line : goal.invariant-loop-line

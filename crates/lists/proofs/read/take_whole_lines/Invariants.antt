@@ -1,6 +1,4 @@
-use Rattle.std.proofs.Common.{◌≡◌, ℕ, List}
-use Rattle.lines.specs.LineBuffers.{IsPending, work}
-use Rattle.lists.specs.Private.Waiting.{TakesSome}
+use Rattle.lists.proofs.Known.{◌≡◌, ℕ, List, IsPending, work, TakesSome}
 use Rattle.lists.proofs.read.take_whole_lines.Given as goal
 
 abbrev pub invariant-lines : goal.invariant-lines

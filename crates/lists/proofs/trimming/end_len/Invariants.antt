@@ -1,5 +1,4 @@
-use Rattle.std.proofs.Common.{length, ◌≡◌, ◌+◌, ◌≤◌, take}
-use Rattle.std.specs.List.{suffix_len}
+use Rattle.lists.proofs.Known.{length, ◌≡◌, ◌+◌, ◌≤◌, take, suffix_len}
 use Rattle.lists.proofs.trimming.end_len.Given as goal
 
 abbrev pub invariant-loop-end : goal.invariant-loop-end

@@ -1,5 +1,4 @@
-use Rattle.std.proofs.Common.{length, ◌-◌, ◌≡◌, ◌+◌, ◌≤◌, drop}
-use Rattle.std.specs.List.{prefix_len}
+use Rattle.lists.proofs.Known.{length, ◌-◌, ◌≡◌, ◌+◌, ◌≤◌, drop, prefix_len}
 use Rattle.lists.proofs.trimming.front_len.Given as goal
 
 abbrev pub invariant-loop-count : goal.invariant-loop-count

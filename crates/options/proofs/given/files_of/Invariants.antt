@@ -1,6 +1,4 @@
-use Rattle.std.proofs.Common.{◌≡◌, ◌≤◌, ◌-◌, ◌++◌, length, drop, map}
-use Rattle.std.specs.String.{string_bytes}
-use Rattle.options.specs.Given.{files_of}
+use Rattle.options.proofs.Known.{◌≡◌, ◌≤◌, ◌-◌, ◌++◌, length, drop, map, string_bytes, files_of}
 use Rattle.options.proofs.given.files_of.Given as goal
 
 abbrev pub invariant-loop-at : goal.invariant-loop-at

@@ -1,8 +1,7 @@
-use Rattle.std.proofs.Common.{◌≡◌, ◌≤◌, ◌-◌, length, drop}
+use Rattle.options.proofs.Known.{◌≡◌, ◌≤◌, ◌-◌, length, drop, last_value, value_of}
+use Rattle.options.proofs.given.value_of.Given as goal
 use denote.Text.{Utf8}
 use denote.Shadow.{shadow}
-use Rattle.options.specs.Given.{last_value, value_of}
-use Rattle.options.proofs.given.value_of.Given as goal
 
 abbrev pub invariant-loop-at : goal.invariant-loop-at
 invariant-loop-at l = record {

@@ -1,5 +1,4 @@
-use Rattle.std.proofs.Common.{◌≡◌, ◌≤◌, ◌-◌, ◌++◌, length, drop}
-use Rattle.options.specs.Items.{items_of}
+use Rattle.options.proofs.Known.{◌≡◌, ◌≤◌, ◌-◌, ◌++◌, length, drop, items_of}
 use Rattle.options.specs.declared.items.Mode.TheVariants as modes
 use Rattle.options.proofs.reading.items_of.Given as goal
 

@@ -1,13 +1,13 @@
-use Rattle.std.proofs.Common.{◌≡◌, ◌≢◌, ◌∙◌, ℕ, ◌∷◌, ◌<◌, [], List, Bool, false, nat_lt, refl, sym, arith, length, ◌==◌, true≢false}
-use Rattle.options.specs.Items.{letters, letters_mode}
+use Rattle.options.proofs.Known.{◌≡◌, ◌≢◌, ◌∙◌, ℕ, ◌∷◌, ◌<◌, [], List, Bool, false, refl, sym, arith, length, ◌==◌, true≢false, letters, letters_mode, Row}
+use Rattle.std.proofs.Common.{nat_lt}
 use Rattle.options.specs.declared.items.Item.TheVariants as says
 use Rattle.options.specs.declared.items.Mode.TheVariants as modes
-use Rattle.options.specs.declared.table.Row.{Row}
 use Rattle.options.proofs.reading.put_letters.Goals as goal
 
 -- behind the letters stands no character of ASCII
 module _ (rows : List Row) (first : Bool) (word : List ℕ) where
-  stuck : (text : List ℕ) → ((letter : ℕ) (rest : List ℕ) → letter < 128 → text ≢ letter ∷ rest) → (length text == 0) ≡ false
+  stuck : (text : List ℕ) → ((letter : ℕ) (rest : List ℕ) → letter < 128 → text ≢ letter ∷ rest)
+      → (length text == 0) ≡ false
       → (letters rows first word text ≡ says.Unknown word ∷ []) × (letters_mode rows text ≡ modes.Free)
   stuck [] none some = absurd (true≢false some)
   stuck (letter ∷ text) none some =
@@ -16,7 +16,8 @@ module _ (rows : List Row) (first : Bool) (word : List ℕ) where
 
 pub returns-in_ok-push-3-clause-items : goal.returns-in_ok-push-3-clause-items
 returns-in_ok-push-3-clause-items c =
-    let end = stuck c.args.rows.now c.letters.first c.args.word.now c.letters.text.now c.in_default.ensures.text (sym c.is_empty.ensures ∙ c.if-not-is_empty.true) in
+    let end = stuck c.args.rows.now c.letters.first c.args.word.now c.letters.text.now c.in_default.ensures.text
+    (sym c.is_empty.ensures ∙ c.if-not-is_empty.true) in
     let word = c.new-then-not-is_empty.ensures in
     let pushed = c.in_ok-push-3.ensures.items in
     let same = rw end.0 at c.letters.invariant.items in
@@ -25,7 +26,8 @@ returns-in_ok-push-3-clause-items c =
 
 pub returns-in_ok-push-3-clause-mode : goal.returns-in_ok-push-3-clause-mode
 returns-in_ok-push-3-clause-mode c =
-    let end = stuck c.args.rows.now c.letters.first c.args.word.now c.letters.text.now c.in_default.ensures.text (sym c.is_empty.ensures ∙ c.if-not-is_empty.true) in
+    let end = stuck c.args.rows.now c.letters.first c.args.word.now c.letters.text.now c.in_default.ensures.text
+    (sym c.is_empty.ensures ∙ c.if-not-is_empty.true) in
     let same = c.letters.invariant.mode in
     let text = c.behind_dash-text.ensures in
     cc

@@ -1,7 +1,4 @@
-use Rattle.std.proofs.Common.{◌∙◌, ◌/◌, ◌%◌, ◌∷◌, [], ◌++◌, ℕ, Bool, ap, ap₂, sym, codes}
-use Rattle.std.specs.Prelude.{if◌then◌else◌}
-use Rattle.program.specs.Escapes.{hex_digit}
-use Rattle.program.proofs.Reported.{tells_on, tells_same}
+use Rattle.program.proofs.Known.{◌∙◌, ◌/◌, ◌%◌, ◌∷◌, [], ◌++◌, ℕ, Bool, ap, ap₂, sym, codes, if◌then◌else◌, hex_digit, tells_on, tells_same}
 use Rattle.program.proofs.escapes.tell_byte.Goals as goal
 
 pub returns-then-is_control : goal.returns-then-is_control
@@ -10,6 +7,7 @@ returns-then-is_control g c =
     let second = c.hex_digit-then-is_control.result in
     tells_same _ _ (codes "\\x" ++ first ∷ second ∷ []) _
     (ap₂ (λ (a b : ℕ). codes "\\x" ++ a ∷ b ∷ []) c.hex_digit.ensures c.hex_digit-then-is_control.ensures
-    ∙ sym (ap (λ (b : Bool). if b then codes "\\x" ++ hex_digit (c.args.byte / 16) ∷ hex_digit (c.args.byte % 16) ∷ [] else c.args.byte ∷ [])
+    ∙ sym (ap (λ (b : Bool). if b then codes "\\x" ++ hex_digit (c.args.byte / 16) ∷ hex_digit (c.args.byte % 16)
+    ∷ [] else c.args.byte ∷ [])
     (sym c.is_control.ensures ∙ c.if-is_control.true)))
     (tells_on c.tell.ensures c.tell_bytes.ensures)

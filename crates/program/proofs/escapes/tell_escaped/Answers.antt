@@ -1,8 +1,5 @@
-use Rattle.std.proofs.Common.{◌≡◌, ◌∙◌, ◌+◌, ◌-◌, ◌++◌, ℕ, List, ap, sym, arith, append_assoc, drop, take}
-use Rattle.std.proofs.Common.{length, length-drop, get_or}
-use Rattle.std.proofs.lemmas.List.{at_drop_more, take_all}
-use Rattle.program.specs.Escapes.{printed, first_of, escaped_behind}
-use Rattle.program.proofs.Reported.{tells_on}
+use Rattle.program.proofs.Known.{◌≡◌, ◌∙◌, ◌+◌, ◌-◌, ◌++◌, ℕ, List, ap, sym, arith, append_assoc, drop, take, length, length-drop, get_or, at_drop_more, take_all, escaped_behind, tells_on}
+use Rattle.program.specs.Escapes.{printed, first_of}
 use Rattle.program.proofs.escapes.tell_escaped.Goals as goal
 
 pub loop-at-preserved : goal.loop-at-preserved

@@ -1,6 +1,4 @@
-use Rattle.std.proofs.Common.{◌≡◌, ◌≤◌, ◌-◌, ℕ, List, ◌++◌, drop, length}
-use Rattle.program.specs.Escapes.{escaped, escaped_behind}
-use Rattle.program.specs.Messages.{Reports}
+use Rattle.program.proofs.Known.{◌≡◌, ◌≤◌, ◌-◌, ℕ, List, ◌++◌, drop, length, escaped, escaped_behind, Reports}
 use Rattle.program.proofs.escapes.tell_escaped.Given as goal
 
 -- what was told, and what is told of the bytes that are left, is all

@@ -1,4 +1,4 @@
-use Rattle.program.proofs.Reported.{tells_on}
+use Rattle.program.proofs.Known.{tells_on}
 use Rattle.program.proofs.messages.tell_head.Goals as goal
 
 pub returns : goal.returns

@@ -1,8 +1,4 @@
-use Rattle.std.proofs.Common.{rules, ◌++◌, ◌∙◌, ◌+◌, ℕ, List, ap, sym, arith, append_assoc, drop}
-use Rattle.std.specs.List.{flat_map}
-use Rattle.std.proofs.lemmas.List.{at_drop_more}
-use Rattle.lines.proofs.Putting.{puts_more}
-use Rattle.program.proofs.Puts.{puts_two, puts_it, fails_first, works_still, works_on}
+use Rattle.program.proofs.Known.{rules, ◌++◌, ◌∙◌, ◌+◌, ℕ, List, ap, sym, arith, append_assoc, drop, flat_map, at_drop_more, puts_more, puts_two, puts_it, fails_first, works_still, works_on}
 use Rattle.program.proofs.putting.put_all.Goals as goal
 
 pub loop-text-preserved : goal.loop-text-preserved

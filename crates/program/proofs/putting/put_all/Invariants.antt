@@ -1,6 +1,4 @@
-use Rattle.std.proofs.Common.{◌≡◌, ℕ, List, ◌++◌, drop}
-use Rattle.std.specs.List.{flat_map}
-use Rattle.lines.specs.Outputs.{Prints}
+use Rattle.program.proofs.Known.{◌≡◌, ℕ, List, ◌++◌, drop, flat_map, Prints}
 use Rattle.program.proofs.putting.put_all.Given as goal
 
 -- what was put, and the texts that are left, are all

@@ -1,5 +1,4 @@
-use Rattle.std.proofs.Common.{◌≡◌, ℕ, ◌+◌, ◌-◌, ◌/◌, ◌^◌, subst, ap, arith, ◌∙◌}
-use Rattle.reducing.proofs.Shared.{ones_shifted}
+use Rattle.reducing.proofs.Known.{◌≡◌, ℕ, ◌+◌, ◌-◌, ◌/◌, ◌^◌, subst, ap, arith, ◌∙◌, ones_shifted}
 use Rattle.reducing.proofs.joining.last_offset.Goals as goal
 
 pub returns-else-host_bits-eq0 : goal.returns-else-host_bits-eq0

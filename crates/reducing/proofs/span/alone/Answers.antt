@@ -1,4 +1,4 @@
-use Rattle.reducing.proofs.Parts.{span_of_one}
+use Rattle.reducing.proofs.Known.{span_of_one}
 use Rattle.reducing.proofs.span.alone.Goals as goal
 
 pub returns-in-Some : goal.returns-in-Some

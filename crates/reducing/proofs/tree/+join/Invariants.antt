@@ -1,4 +1,4 @@
-use Rattle.std.proofs.Common.{◌+◌, ◌*◌, length}
+use Rattle.reducing.proofs.Known.{◌+◌, ◌*◌, length}
 use Rattle.reducing.proofs.tree.+join.Given as goal
 
 abbrev pub decreases-join : goal.decreases-join

@@ -1,6 +1,5 @@
-use Rattle.std.proofs.Common.{arith}
+use Rattle.cidr.proofs.Known.{arith, encode_ascii}
 use Rattle.std.proofs.lemmas.List.{length-append}
-use Rattle.std.proofs.lemmas.Str.{encode_ascii}
 use Rattle.cidr.proofs.commands.ends.push_ends.Goals as goal
 
 pub push_str-requires : goal.push_str-requires

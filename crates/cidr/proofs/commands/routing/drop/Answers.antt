@@ -1,7 +1,4 @@
-use Rattle.std.proofs.Common.{ap, sym}
-use Rattle.cidr.specs.Private.Routes.{routes_of}
-use Rattle.cidr.specs.Requests.{dropping}
-use Rattle.cidr.proofs.Requests.{plain_reply, replies_as}
+use Rattle.cidr.proofs.Known.{ap, sym, routes_of, dropping, plain_reply, replies_as}
 use Rattle.cidr.proofs.commands.routing.drop.Goals as goal
 
 pub returns-in-Err : goal.returns-in-Err

@@ -1,12 +1,10 @@
-use Rattle.std.proofs.Common.{None, inl, refl, ap, sym}
-use Rattle.cidr.specs.Private.Routes.{routes_of}
-use Rattle.cidr.specs.Requests.{finding}
-use Rattle.cidr.proofs.Requests.{plain_reply, replies_as}
+use Rattle.cidr.proofs.Known.{None, inl, refl, ap, sym, routes_of, finding, plain_reply, replies_as}
 use Rattle.cidr.proofs.commands.routing.find.Goals as goal
 
 pub returns-in_default : goal.returns-in_default
 returns-in_default c =
-    replies_as (routes_of c.args.routes.now) (routes_of c.args.routes.now) _ _ _ _ (ap finding (sym c.in_default.ensures))
+    replies_as (routes_of c.args.routes.now) (routes_of c.args.routes.now) _ _ _ _
+    (ap finding (sym c.in_default.ensures))
     (plain_reply (routes_of c.args.routes.now) _ _ _ c.reply.ensures)
 
 pub returns-in_default-find : goal.returns-in_default-find

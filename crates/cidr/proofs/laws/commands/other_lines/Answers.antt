@@ -1,4 +1,4 @@
-use Rattle.cidr.proofs.CommandLines.{unknown_lines, long_lines}
+use Rattle.cidr.proofs.Known.{unknown_lines, long_lines}
 use Rattle.cidr.proofs.laws.commands.other_lines.Goals as goal
 
 pub returns-clause-unknown : goal.returns-clause-unknown

@@ -1,4 +1,4 @@
-use Rattle.cidr.proofs.PlainLines.{asks_nothing, others_routing, one_output}
+use Rattle.cidr.proofs.Known.{asks_nothing, others_routing, one_output}
 use Rattle.cidr.proofs.laws.outputs.plain_lines_ask_nothing.Goals as goal
 
 pub returns : goal.returns

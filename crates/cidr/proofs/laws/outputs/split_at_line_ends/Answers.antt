@@ -1,5 +1,4 @@
-use Rattle.cidr.proofs.AskingParts.{parts_after_routes}
-use Rattle.cidr.proofs.Splits.{splits, parts_alone}
+use Rattle.cidr.proofs.Known.{parts_after_routes, splits, parts_alone}
 use Rattle.cidr.proofs.laws.outputs.split_at_line_ends.Goals as goal
 
 pub returns : goal.returns

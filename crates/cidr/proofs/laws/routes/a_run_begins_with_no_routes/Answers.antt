@@ -1,4 +1,4 @@
-use Rattle.cidr.proofs.RouteLines.{first_find, first_drop, first_add}
+use Rattle.cidr.proofs.Known.{first_find, first_drop, first_add}
 use Rattle.cidr.proofs.laws.routes.a_run_begins_with_no_routes.Goals as goal
 
 pub returns-clause-find : goal.returns-clause-find

@@ -1,4 +1,4 @@
-use Rattle.cidr.proofs.Concluded.{after_ok}
+use Rattle.cidr.proofs.Known.{after_ok}
 use Rattle.cidr.proofs.laws.runs.after_ok.Goals as goal
 
 pub returns : goal.returns

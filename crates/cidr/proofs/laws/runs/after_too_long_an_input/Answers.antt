@@ -1,4 +1,4 @@
-use Rattle.cidr.proofs.Concluded.{after_too_long}
+use Rattle.cidr.proofs.Known.{after_too_long}
 use Rattle.cidr.proofs.laws.runs.after_too_long_an_input.Goals as goal
 
 pub returns : goal.returns

@@ -1,5 +1,4 @@
-use Rattle.std.proofs.Common.{Ok}
-use Rattle.cidr.proofs.Membership.{has_members}
+use Rattle.cidr.proofs.Known.{Ok, has_members}
 use Rattle.cidr.proofs.laws.sets.has4_answers_membership.Goals as goal
 
 pub returns : goal.returns

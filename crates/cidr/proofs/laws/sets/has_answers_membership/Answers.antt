@@ -1,6 +1,4 @@
-use Rattle.std.proofs.Common.{Ok}
-use Rattle.cidr.proofs.EitherAnswers.{value_from}
-use Rattle.cidr.proofs.Membership.{has_ip_members}
+use Rattle.cidr.proofs.Known.{Ok, value_from, has_ip_members}
 use Rattle.cidr.proofs.laws.sets.has_answers_membership.Goals as goal
 
 pub returns : goal.returns

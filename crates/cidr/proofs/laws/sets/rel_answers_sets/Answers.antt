@@ -1,5 +1,4 @@
-use Rattle.std.proofs.Common.{Ok}
-use Rattle.cidr.proofs.Membership.{relates_sets}
+use Rattle.cidr.proofs.Known.{Ok, relates_sets}
 use Rattle.cidr.proofs.laws.sets.rel_answers_sets.Goals as goal
 
 pub returns : goal.returns

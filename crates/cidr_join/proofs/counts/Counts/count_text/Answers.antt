@@ -1,5 +1,4 @@
-use Rattle.std.proofs.Common.{refl}
-use Rattle.cidr_join.proofs.Repeated.{text_counted}
+use Rattle.cidr_join.proofs.Known.{refl, text_counted}
 use Rattle.cidr_join.proofs.counts.Counts.count_text.Goals as goal
 
 pub returns : goal.returns

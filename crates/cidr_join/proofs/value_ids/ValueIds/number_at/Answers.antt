@@ -1,4 +1,4 @@
-use Rattle.cidr_join.proofs.Numbering.{stands_v4, stands_v6}
+use Rattle.cidr_join.proofs.Known.{stands_v4, stands_v6}
 use Rattle.cidr_join.proofs.value_ids.ValueIds.number_at.Goals as goal
 
 pub returns-in-V4 : goal.returns-in-V4

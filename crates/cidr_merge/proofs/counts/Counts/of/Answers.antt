@@ -1,8 +1,4 @@
-use Rattle.std.proofs.Common.{◌-◌, ◌^◌, ap, length}
-use Rattle.ipnetwork_sets.specs.Counts.{count_number, total}
-use Rattle.cidr_merge.specs.Private.Sweeps.{blocks_left}
-use Rattle.cidr_merge.proofs.Merging.{shorter}
-use Rattle.cidr_merge.proofs.Totals.{totalled_on, listed_on, kept_within, at_end}
+use Rattle.cidr_merge.proofs.Known.{◌-◌, ◌^◌, ap, length, count_number, total, blocks_left, shorter, totalled_on, listed_on, kept_within, at_end}
 use Rattle.cidr_merge.proofs.counts.Counts.of.Goals as goal
 
 pub loop-block-smaller : goal.loop-block-smaller

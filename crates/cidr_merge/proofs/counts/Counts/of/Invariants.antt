@@ -1,6 +1,4 @@
-use Rattle.std.proofs.Common.{◌≡◌, ◌≤◌, ◌+◌, ◌-◌, ◌^◌, length, min}
-use Rattle.ipnetwork_sets.specs.Counts.{count_number, total}
-use Rattle.cidr_merge.specs.Private.Sweeps.{blocks_left}
+use Rattle.cidr_merge.proofs.Known.{◌≡◌, ◌≤◌, ◌+◌, ◌-◌, ◌^◌, length, min, count_number, total, blocks_left}
 use Rattle.cidr_merge.proofs.counts.Counts.of.Given as goal
 
 abbrev pub invariant-loop-block : goal.invariant-loop-block

@@ -1,4 +1,4 @@
-use Rattle.cidr_merge.proofs.Merging.{headed}
+use Rattle.cidr_merge.proofs.Known.{headed}
 use Rattle.cidr_merge.proofs.merge_join.MergeJoin.of.Goals as goal
 
 pub returns-clause-first : goal.returns-clause-first

@@ -1,5 +1,4 @@
-use Rattle.std.proofs.Common.{◌≡◌, length}
-use Rattle.cidr_merge.specs.Private.LinesLeft.{lines_left}
+use Rattle.cidr_merge.proofs.Known.{◌≡◌, length, lines_left}
 use Rattle.cidr_merge.proofs.numbered_lines.NumberedLines.next.Given as goal
 
 abbrev pub invariant-lists : goal.invariant-lists

@@ -1,11 +1,21 @@
-use Rattle.std.proofs.Common.{◌∙◌}
-use Rattle.cidr_merge.specs.Answers.{sign_of}
-use Rattle.cidr_merge.proofs.ExportTexts.{put_two_ok}
+use Rattle.cidr_merge.proofs.Known.{ℕ, List, ◌++◌, ◌∙◌, ap, rules, [], ◌∷◌, fails_first, puts_it, puts_two, line_of}
+use Rattle.std.proofs.Common.{codes}
 use Rattle.cidr_merge.proofs.side_parts.RangesNetworkSweepNetworkParts.put.Goals as goal
 
-pub returns-clause-text : goal.returns-clause-text
-returns-clause-text g c =
-    put_two_ok c.put_range.result c.args.output.now.holds c.put.new.self.holds
-    c.put_range.new.output.holds c.args.output.now.waits c.put.new.self.waits
-    c.put_range.new.output.waits c.as_bytes.result.now _ (sign_of c.args.operation c.args.side)
-    (c.as_bytes.ensures.value ∙ c.sign_of.ensures) c.in_ok-put.ensures.ok c.put_range.ensures.ok
+pub returns-in_err-put : goal.returns-in_err-put
+returns-in_err-put g c =
+    let line = line_of c.args.names.now (g.A.Address.family.canonical (g.A.Address.number c.args.range.0) ∷ codes " - "
+    ∷ g.A.Address.family.canonical (g.A.Address.number c.args.range.1) ∷ []) in
+    puts_it _ c.args.output.now c.put.new.self (c.as_bytes.result.now ++ line) _
+    (ap (λ (t : List ℕ). t ++ line) (c.as_bytes.ensures.value ∙ c.sign_of.ensures))
+    (fails_first _ c.args.output.now c.put.new.self c.as_bytes.result.now line (search rules)
+    c.in_err-put.ensures.failed c.in_err-put.ensures.err)
+
+pub returns : goal.returns
+returns g c =
+    let line = line_of c.args.names.now (g.A.Address.family.canonical (g.A.Address.number c.args.range.0) ∷ codes " - "
+    ∷ g.A.Address.family.canonical (g.A.Address.number c.args.range.1) ∷ []) in
+    puts_it c.put_range.result c.args.output.now c.put_range.new.output (c.as_bytes.result.now ++ line) _
+    (ap (λ (t : List ℕ). t ++ line) (c.as_bytes.ensures.value ∙ c.sign_of.ensures))
+    (puts_two c.put_range.result c.args.output.now c.put.new.self c.put_range.new.output c.as_bytes.result.now line
+    c.in_ok-put.ensures.ok c.in_ok-put.ensures.failed c.put_range.ensures)

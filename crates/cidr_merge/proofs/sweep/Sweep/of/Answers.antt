@@ -1,6 +1,4 @@
-use Rattle.std.proofs.Common.{refl}
-use Rattle.cidr_merge.specs.declared.command_line.Operation.TheVariants.{Union, Common}
-use Rattle.cidr_merge.proofs.Totals.{left_by, alone_by}
+use Rattle.cidr_merge.proofs.Known.{refl, Union, Common, left_by, alone_by}
 use Rattle.cidr_merge.proofs.sweep.Sweep.of.Goals as goal
 
 pub returns-in-Union : goal.returns-in-Union

@@ -1,7 +1,4 @@
-use Rattle.std.proofs.Common.{◌∷◌, ◌+◌, ◌∙◌, drop, sym, ap, arith}
-use Rattle.std.proofs.lemmas.List.{take_rest}
-use Rattle.std.specs.Str.Lines.{lines}
-use Rattle.cidr_merge.proofs.TextLines.{line_before, last_alone, none_left}
+use Rattle.cidr_merge.proofs.Known.{◌∷◌, ◌+◌, ◌∙◌, drop, sym, ap, arith, take_rest, lines, line_before, last_alone, none_left}
 use Rattle.cidr_merge.proofs.text_lines.TextLines.next.Goals as goal
 
 pub returns-in-Some-clause-line : goal.returns-in-Some-clause-line

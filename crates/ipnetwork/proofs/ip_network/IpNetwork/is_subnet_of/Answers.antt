@@ -1,4 +1,4 @@
-use Rattle.ipnetwork.proofs.Families.{subnet_answer_v4, subnet_answer_v6, subnet_refused_v4, subnet_refused_v6}
+use Rattle.ipnetwork.proofs.Known.{subnet_answer_v4, subnet_answer_v6, subnet_refused_v4, subnet_refused_v6}
 use Rattle.ipnetwork.proofs.ip_network.IpNetwork.is_subnet_of.Goals as goal
 
 pub returns-in-V4-other : goal.returns-in-V4-other

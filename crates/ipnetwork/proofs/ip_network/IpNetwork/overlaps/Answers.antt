@@ -1,4 +1,4 @@
-use Rattle.ipnetwork.proofs.Families.{overlap_answer_v4, overlap_answer_v6}
+use Rattle.ipnetwork.proofs.Known.{overlap_answer_v4, overlap_answer_v6}
 use Rattle.ipnetwork.proofs.ip_network.IpNetwork.overlaps.Goals as goal
 
 pub returns-in-V4-other : goal.returns-in-V4-other

@@ -1,4 +1,4 @@
-use Rattle.ipnetwork.proofs.FamilyQuestions.{v4_asks, v6_asks}
+use Rattle.ipnetwork.proofs.Known.{v4_asks, v6_asks}
 use Rattle.ipnetwork.proofs.laws.families.each_asks_its_family.Goals as goal
 
 pub returns : goal.returns

@@ -1,5 +1,4 @@
-use Rattle.ipnetwork.proofs.FamilyQuestions.{v4_makes, v6_makes, v4_takes, v6_takes}
-use Rattle.ipnetwork.proofs.Masked.{masked_is_made, no_mask_is_refused}
+use Rattle.ipnetwork.proofs.Known.{v4_makes, v6_makes, v4_takes, v6_takes, masked_is_made, no_mask_is_refused}
 use Rattle.ipnetwork.proofs.laws.families.each_is_made_in_its_family.Goals as goal
 
 pub returns : goal.returns

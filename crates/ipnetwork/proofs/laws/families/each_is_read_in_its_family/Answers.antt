@@ -1,5 +1,4 @@
-use Rattle.ipnetwork.proofs.FamilyQuestions.{v4_reads, v6_reads}
-use Rattle.ipnetwork.proofs.Parsed.{parses_as_it_reads}
+use Rattle.ipnetwork.proofs.Known.{v4_reads, v6_reads, parses_as_it_reads}
 use Rattle.ipnetwork.proofs.laws.families.each_is_read_in_its_family.Goals as goal
 
 pub returns : goal.returns

@@ -1,7 +1,4 @@
-use Rattle.std.proofs.Common.{subst}
-use Rattle.ipnetwork_addr.specs.declared.ip.IpAddr.{IpAddr}
-use Rattle.ipnetwork.specs.IpNetworks.{GivesMaskPrefix}
-use Rattle.ipnetwork.proofs.FamilyQuestions.{mask_converted}
+use Rattle.ipnetwork.proofs.Known.{subst, IpAddr, GivesMaskPrefix, mask_converted}
 use Rattle.ipnetwork.proofs.laws.families.ip_mask_converts_back.Goals as goal
 
 pub returns : goal.returns

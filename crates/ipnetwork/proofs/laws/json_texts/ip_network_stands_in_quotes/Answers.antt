@@ -1,4 +1,4 @@
-use Rattle.ipnetwork_family.proofs.JsonTexts.{stands_in_quotes}
+use Rattle.ipnetwork.proofs.Known.{stands_in_quotes}
 use Rattle.ipnetwork.proofs.laws.json_texts.ip_network_stands_in_quotes.Goals as goal
 
 pub returns : goal.returns

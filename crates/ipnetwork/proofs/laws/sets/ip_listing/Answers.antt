@@ -1,4 +1,4 @@
-use Rattle.ipnetwork.proofs.Listings.{listed_members, members_ascend}
+use Rattle.ipnetwork.proofs.Known.{listed_members, members_ascend}
 use Rattle.ipnetwork.proofs.laws.sets.ip_listing.Goals as goal
 
 pub returns : goal.returns

@@ -1,4 +1,4 @@
-use Rattle.ipnetwork.proofs.Families.{member_computed}
+use Rattle.ipnetwork.proofs.Known.{member_computed}
 use Rattle.ipnetwork.proofs.laws.sets.ip_membership_is_computed.Goals as goal
 
 pub returns : goal.returns

@@ -1,4 +1,4 @@
-use Rattle.ipnetwork.proofs.Families.{subnet_computed}
+use Rattle.ipnetwork.proofs.Known.{subnet_computed}
 use Rattle.ipnetwork.proofs.laws.sets.ip_subnet_is_computed.Goals as goal
 
 pub returns : goal.returns

@@ -1,7 +1,4 @@
-use Rattle.ipnetwork.specs.declared.ip_network.IpNetwork.{IpNetwork}
-use Rattle.ipnetwork.specs.declared.ip_network.IpNetwork.TheVariants.{V4, V6}
-use Rattle.ipnetwork.specs.IpNetworks.{IsIpNetwork}
-use Rattle.ipnetwork.specs.IpNetworkText.{NamesIpNetwork, ip_network_text}
+use Rattle.ipnetwork.proofs.Known.{IpNetwork, V4, V6, IsIpNetwork, NamesIpNetwork, ip_network_text}
 use Rattle.ipnetwork.proofs.laws.texts.canonical_ip_network_names_it.Goals as goal
 
 pub returns : goal.returns

@@ -1,4 +1,4 @@
-use Rattle.ipnetwork.proofs.EitherNetworks.{names_one}
+use Rattle.ipnetwork.proofs.Known.{names_one}
 use Rattle.ipnetwork.proofs.laws.texts.ip_network_text_names_one.Goals as goal
 
 pub returns : goal.returns

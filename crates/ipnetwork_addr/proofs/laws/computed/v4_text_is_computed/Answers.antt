@@ -1,4 +1,4 @@
-use Rattle.ipnetwork_addr.proofs.ComputedV4.{v4_of_sound, v4_of_complete}
+use Rattle.ipnetwork_addr.proofs.Known.{v4_of_sound, v4_of_complete}
 use Rattle.ipnetwork_addr.proofs.laws.computed.v4_text_is_computed.Goals as goal
 
 pub returns : goal.returns

@@ -1,8 +1,4 @@
-use Rattle.std.proofs.Common.{◌≡◌, lit≤}
-use Rattle.ipnetwork_addr.specs.Either.{canonical_ip}
-use Rattle.ipnetwork_addr.specs.declared.ip.IpAddr.{IpAddr}
-use Rattle.ipnetwork_addr.specs.declared.ip.IpAddr.TheVariants.{V4, V6}
-use Rattle.ipnetwork_addr.proofs.EitherFamily.{ip_one_to_one}
+use Rattle.ipnetwork_addr.proofs.Known.{◌≡◌, lit≤, canonical_ip, IpAddr, V4, V6, ip_one_to_one}
 use Rattle.ipnetwork_addr.proofs.laws.texts.canonical_ip_is_one_to_one.Goals as goal
 
 pub returns : goal.returns

@@ -1,10 +1,4 @@
-use Rattle.std.proofs.Common.{lit≤}
-use Rattle.std.specs.Prelude.{codes}
-use Rattle.std.specs.Fmt.{digits}
-use Rattle.ipnetwork_addr.specs.Ipv4Text.{NamesV4}
-use Rattle.ipnetwork_addr.specs.Ipv6Text.{NamesV6}
-use Rattle.ipnetwork_addr.specs.declared.ip.IpAddr.TheVariants.{V4, V6}
-use Rattle.ipnetwork_addr.proofs.EitherFamily.{canonical_ip_names}
+use Rattle.ipnetwork_addr.proofs.Known.{lit≤, codes, digits, NamesV4, NamesV6, V4, V6, canonical_ip_names}
 use Rattle.ipnetwork_addr.proofs.laws.texts.canonical_ip_names_its_address.Goals as goal
 
 pub returns : goal.returns

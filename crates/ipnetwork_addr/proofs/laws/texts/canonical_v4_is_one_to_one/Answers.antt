@@ -1,6 +1,4 @@
-use Rattle.std.proofs.Common.{◌≡◌, ap, arith, lit≤}
-use Rattle.ipnetwork_addr.specs.Ipv4Text.{canonical_v4}
-use Rattle.ipnetwork_addr.proofs.Ipv4Lemmas.{v4_unique, canonical_v4_names}
+use Rattle.ipnetwork_addr.proofs.Known.{◌≡◌, ap, arith, lit≤, canonical_v4, v4_unique, canonical_v4_names}
 use Rattle.ipnetwork_addr.proofs.laws.texts.canonical_v4_is_one_to_one.Goals as goal
 
 pub returns : goal.returns

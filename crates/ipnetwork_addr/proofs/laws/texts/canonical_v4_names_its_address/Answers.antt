@@ -1,4 +1,4 @@
-use Rattle.ipnetwork_addr.proofs.Ipv4Lemmas.{canonical_v4_names}
+use Rattle.ipnetwork_addr.proofs.Known.{canonical_v4_names}
 use Rattle.ipnetwork_addr.proofs.laws.texts.canonical_v4_names_its_address.Goals as goal
 
 pub returns : goal.returns

@@ -1,4 +1,4 @@
-use Rattle.ipnetwork_addr.proofs.Ipv6Printed.{canonical_v6_names}
+use Rattle.ipnetwork_addr.proofs.Known.{canonical_v6_names}
 use Rattle.ipnetwork_addr.proofs.laws.texts.canonical_v6_names_its_address.Goals as goal
 
 pub returns : goal.returns

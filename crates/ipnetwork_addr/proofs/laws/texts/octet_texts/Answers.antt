@@ -1,8 +1,4 @@
-use Rattle.std.proofs.Common.{◌≡◌, refl, arith, lit≤}
-use Rattle.std.specs.Prelude.{codes}
-use Rattle.std.specs.Fmt.{digits}
-use Rattle.ipnetwork_addr.specs.Ipv4Text.{IsOctet, IsPlainOctet}
-use Rattle.ipnetwork_addr.proofs.PlainOctet.{plain_from_octet, octet_from_plain}
+use Rattle.ipnetwork_addr.proofs.Known.{◌≡◌, refl, arith, lit≤, codes, digits, IsOctet, IsPlainOctet, plain_from_octet, octet_from_plain}
 use Rattle.ipnetwork_addr.proofs.laws.texts.octet_texts.Goals as goal
 
 pub returns : goal.returns

@@ -1,4 +1,4 @@
-use Rattle.ipnetwork_addr.proofs.Ipv4Lemmas.{v4_unique}
+use Rattle.ipnetwork_addr.proofs.Known.{v4_unique}
 use Rattle.ipnetwork_addr.proofs.laws.texts.v4_text_names_one.Goals as goal
 
 pub returns : goal.returns

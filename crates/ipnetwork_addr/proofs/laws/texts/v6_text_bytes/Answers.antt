@@ -1,4 +1,4 @@
-use Rattle.ipnetwork_addr.proofs.Ipv6Bytes.{v6_bytes}
+use Rattle.ipnetwork_addr.proofs.Known.{v6_bytes}
 use Rattle.ipnetwork_addr.proofs.laws.texts.v6_text_bytes.Goals as goal
 
 pub returns : goal.returns

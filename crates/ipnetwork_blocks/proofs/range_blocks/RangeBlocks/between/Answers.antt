@@ -1,5 +1,4 @@
-use Rattle.ipnetwork_blocks.proofs.RangeCounts.{count_from_to}
-use Rattle.ipnetwork_blocks.proofs.RangeLists.{least_from_to}
+use Rattle.ipnetwork_blocks.proofs.Known.{count_from_to, least_from_to}
 use Rattle.ipnetwork_blocks.proofs.range_blocks.RangeBlocks.between.Goals as goal
 
 pub returns-clause-blocks : goal.returns-clause-blocks

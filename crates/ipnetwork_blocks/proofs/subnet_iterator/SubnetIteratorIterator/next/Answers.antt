@@ -1,14 +1,12 @@
-use Rattle.std.proofs.Common.{ℕ, sym, ◌∙◌}
-use Rattle.ipnetwork_family.specs.Network.{Network}
-use Rattle.ipnetwork_blocks.specs.Private.BlockRuns.{IsRun}
-use Rattle.ipnetwork_blocks.proofs.Addresses.{same_network, other_network}
-use Rattle.ipnetwork_blocks.proofs.BlockRuns.{Steps, step_at_last, step_before_last, run_of, list_of, list_falls}
+use Rattle.ipnetwork_blocks.proofs.Known.{ℕ, sym, ◌∙◌, Network, IsRun, same_network, other_network, Steps, step_at_last, step_before_last, run_of, list_of}
+use Rattle.ipnetwork_blocks.proofs.BlockRuns.{list_falls}
 use Rattle.ipnetwork_blocks.proofs.subnet_iterator.SubnetIteratorIterator.next.Given.{Over}
 use Rattle.ipnetwork_blocks.proofs.subnet_iterator.SubnetIteratorIterator.next.Goals as goal
 use Rattle.ipnetwork_blocks.proofs.subnet_iterator.SubnetIteratorIterator.next.Goals.{Joined-eq, then-eq, else-eq}
 
 -- how the step changes the run
-steps : (g : Over) (c : Joined-eq g) → Steps g.N.CidrNetwork.WIDTH g.N.CidrNetwork.pair (g.N.CidrNetwork.pair c.in_ok-item.item) (g.N.CidrNetwork.pair c.self.inside.last) c.if-eq.self
+steps : (g : Over) (c : Joined-eq g) → Steps g.N.CidrNetwork.WIDTH g.N.CidrNetwork.pair
+    (g.N.CidrNetwork.pair c.in_ok-item.item) (g.N.CidrNetwork.pair c.self.inside.last) c.if-eq.self
 steps g c =
     let w : ℕ = g.N.CidrNetwork.WIDTH in
     let pair = g.N.CidrNetwork.pair in
@@ -17,10 +15,12 @@ steps g c =
     let run : IsRun w f l = run_of w pair c.self.inside.next c.in_ok-item.item l c.in_ok-item.was c.self.invariant in
     elim c.if-eq.branch [
       | then-eq v ↦ step_at_last w pair f l c.if-eq.self run
-          (same_network g.N.PartialEq.eq g.N.Ord.cmp pair g.met.N.Ord.matches_eq g.met.N.CidrNetwork.network_order c.in_ok-item.item c.self.inside.last c.eq.result c.eq.ensures v.if-eq.true)
+          (same_network g.N.PartialEq.eq g.N.Ord.cmp pair g.met.N.Ord.matches_eq g.met.N.CidrNetwork.network_order
+          c.in_ok-item.item c.self.inside.last c.eq.result c.eq.ensures v.if-eq.true)
           v.self-is
       | else-eq v ↦ step_before_last w pair f l c.if-eq.self v.following-self-inside.result run
-          (other_network g.N.PartialEq.eq g.N.Ord.cmp pair g.met.N.Ord.matches_eq g.met.N.CidrNetwork.network_order c.in_ok-item.item c.self.inside.last c.eq.result c.eq.ensures v.if-eq.false
+          (other_network g.N.PartialEq.eq g.N.Ord.cmp pair g.met.N.Ord.matches_eq g.met.N.CidrNetwork.network_order
+          c.in_ok-item.item c.self.inside.last c.eq.result c.eq.ensures v.if-eq.false
           run.as_long)
           v.self-is v.following-self-inside.ensures
     ]
@@ -30,8 +30,10 @@ invariant_of-self g c = (steps g (goal.at.invariant_of-self g c).Joined-eq).ends
 
 pub returns-clause-steps : goal.returns-clause-steps
 returns-clause-steps g c =
-    sym c.self.view_is ∙ list_of g.N.CidrNetwork.WIDTH g.N.CidrNetwork.pair c.self.inside.next c.if-eq.self c.in_ok-item.item (g.N.CidrNetwork.pair c.self.inside.last) c.in_ok-item.was
+    sym c.self.view_is ∙ list_of g.N.CidrNetwork.WIDTH g.N.CidrNetwork.pair c.self.inside.next c.if-eq.self
+    c.in_ok-item.item (g.N.CidrNetwork.pair c.self.inside.last) c.in_ok-item.was
     (steps g (goal.at.returns-clause-steps g c).Joined-eq)
 
 pub returns-clause-goes : goal.returns-clause-goes
-returns-clause-goes g c = list_falls c.args.self.now _ (g.N.CidrNetwork.pair c.in_ok-item.item) c.in_ok-item.item (returns-clause-steps g c)
+returns-clause-goes g c = list_falls c.args.self.now _ (g.N.CidrNetwork.pair c.in_ok-item.item) c.in_ok-item.item
+    (returns-clause-steps g c)

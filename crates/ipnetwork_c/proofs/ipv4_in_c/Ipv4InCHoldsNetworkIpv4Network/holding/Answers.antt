@@ -1,7 +1,4 @@
-use Rattle.std.proofs.Common.{◌≡◌, ◌≤◌, sym, subst}
-use Rattle.ipnetwork_family.specs.Network.{Network}
-use Rattle.ipnetwork_c.specs.Held.{v4_in}
-use Rattle.ipnetwork_c.proofs.Octets.{v4_again}
+use Rattle.ipnetwork_c.proofs.Known.{◌≡◌, ◌≤◌, sym, subst, Network, v4_in, v4_again}
 use Rattle.ipnetwork_c.proofs.ipv4_in_c.Ipv4InCHoldsNetworkIpv4Network.holding.Goals as goal
 
 pub returns : goal.returns

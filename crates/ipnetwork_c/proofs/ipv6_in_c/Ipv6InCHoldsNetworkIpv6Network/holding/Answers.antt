@@ -1,7 +1,4 @@
-use Rattle.std.proofs.Common.{◌≡◌, ◌≤◌, sym, subst}
-use Rattle.ipnetwork_family.specs.Network.{Network}
-use Rattle.ipnetwork_c.specs.Held.{v6_in}
-use Rattle.ipnetwork_c.proofs.Octets.{v6_again}
+use Rattle.ipnetwork_c.proofs.Known.{◌≡◌, ◌≤◌, sym, subst, Network, v6_in, v6_again}
 use Rattle.ipnetwork_c.proofs.ipv6_in_c.Ipv6InCHoldsNetworkIpv6Network.holding.Goals as goal
 
 pub returns : goal.returns

@@ -1,4 +1,4 @@
-use Rattle.ipnetwork_family.proofs.CanonicalNetworks.{v4_clear}
+use Rattle.ipnetwork_family.proofs.Known.{v4_clear}
 use Rattle.ipnetwork_family.proofs.ipv4.Ipv4AddrAddress.law_texts.Goals as goal
 
 pub returns : goal.returns

@@ -1,5 +1,4 @@
-use Rattle.ipnetwork_addr.proofs.EightSegments.{made_of}
-use Rattle.ipnetwork_family.proofs.EightSegments.{number_of_mask, agree_under}
+use Rattle.ipnetwork_family.proofs.Known.{made_of, number_of_mask, agree_under}
 use Rattle.ipnetwork_family.proofs.ipv6.Ipv6AddrAddress.agrees.Goals as goal
 
 pub returns : goal.returns

@@ -1,6 +1,4 @@
-use Rattle.std.proofs.Common.{ap₂, ◌∙◌, ◌-◌, bit_or}
-use Rattle.ipnetwork_addr.proofs.EightSegments.{made_of}
-use Rattle.ipnetwork_family.proofs.EightSegments.{number_of_mask, greatest_under}
+use Rattle.ipnetwork_family.proofs.Known.{ap₂, ◌∙◌, ◌-◌, bit_or, made_of, number_of_mask, greatest_under}
 use Rattle.ipnetwork_family.proofs.ipv6.Ipv6AddrAddress.greatest.Goals as goal
 
 pub returns : goal.returns

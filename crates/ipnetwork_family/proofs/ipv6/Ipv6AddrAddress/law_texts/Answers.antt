@@ -1,4 +1,4 @@
-use Rattle.ipnetwork_family.proofs.CanonicalNetworks.{v6_clear}
+use Rattle.ipnetwork_family.proofs.Known.{v6_clear}
 use Rattle.ipnetwork_family.proofs.ipv6.Ipv6AddrAddress.law_texts.Goals as goal
 
 pub returns : goal.returns

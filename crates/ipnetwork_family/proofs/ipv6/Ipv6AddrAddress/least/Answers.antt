@@ -1,6 +1,4 @@
-use Rattle.std.proofs.Common.{ap₂, ◌∙◌, bit_and}
-use Rattle.ipnetwork_addr.proofs.EightSegments.{made_of}
-use Rattle.ipnetwork_family.proofs.EightSegments.{number_of_mask, least_under}
+use Rattle.ipnetwork_family.proofs.Known.{ap₂, ◌∙◌, bit_and, made_of, number_of_mask, least_under}
 use Rattle.ipnetwork_family.proofs.ipv6.Ipv6AddrAddress.least.Goals as goal
 
 pub returns : goal.returns

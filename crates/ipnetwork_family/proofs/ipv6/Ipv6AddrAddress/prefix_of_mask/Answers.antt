@@ -1,12 +1,4 @@
-use Rattle.std.proofs.Common.{◌≡◌, ◌-◌, ◌∙◌, ap, sym}
-use Rattle.std.specs.Int.Count.{count_leading_zeros}
-use Rattle.std.specs.List.{sum_by}
-use Rattle.std.proofs.lemmas.Bool.{true≢false}
-use Rattle.std.proofs.lemmas.Bool.Decides.{Decides-eqb}
-use Rattle.std.proofs.lemmas.Slice.Eq.{slice_eq-Decides}
-use Rattle.ipnetwork_addr.specs.Digits.{segments_of}
-use Rattle.ipnetwork_family.specs.Network.{mask_of}
-use Rattle.ipnetwork_family.proofs.EightSegments.{ones_of_mask}
+use Rattle.ipnetwork_family.proofs.Known.{◌≡◌, ◌-◌, ◌∙◌, ap, sym, count_leading_zeros, sum_by, true≢false, Decides-eqb, slice_eq-Decides, segments_of, mask_of, ones_of_mask}
 use Rattle.ipnetwork_family.proofs.ipv6.Ipv6AddrAddress.prefix_of_mask.Goals as goal
 
 pub returns-else-eq : goal.returns-else-eq

@@ -1,4 +1,4 @@
-use Rattle.ipnetwork_family.proofs.ComputedV6.{v6_suffix_read}
+use Rattle.ipnetwork_family.proofs.Known.{v6_suffix_read}
 use Rattle.ipnetwork_family.proofs.ipv6.Ipv6AddrAddress.read_suffix.Goals as goal
 
 pub returns : goal.returns

@@ -1,5 +1,6 @@
-use Rattle.ipnetwork_family.proofs.CountedBits.{shared_bits}
+use Rattle.ipnetwork_family.proofs.Known.{shared_bits}
 use Rattle.ipnetwork_family.proofs.ipv6.Ipv6AddrAddress.shared_bits.Goals as goal
 
 pub returns : goal.returns
-returns c = rw (← c.from.ensures, ← c.from-2.ensures) (shared_bits 128 c.from.result c.from-2.result c.from.type_inv c.from-2.type_inv)
+returns c = rw (← c.from.ensures, ← c.from-2.ensures)
+    (shared_bits 128 c.from.result c.from-2.result c.from.type_inv c.from-2.type_inv)

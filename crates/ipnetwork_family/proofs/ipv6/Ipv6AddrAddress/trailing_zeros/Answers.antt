@@ -1,4 +1,4 @@
-use Rattle.ipnetwork_family.proofs.CountedBits.{trailing_zeros}
+use Rattle.ipnetwork_family.proofs.Known.{trailing_zeros}
 use Rattle.ipnetwork_family.proofs.ipv6.Ipv6AddrAddress.trailing_zeros.Goals as goal
 
 pub returns : goal.returns

@@ -1,4 +1,4 @@
-use Rattle.ipnetwork_family.proofs.Masks.{mask_is_computed, mask_is_converted}
+use Rattle.ipnetwork_family.proofs.Known.{mask_is_computed, mask_is_converted}
 use Rattle.ipnetwork_family.proofs.laws.conversions.mask_conversion.Goals as goal
 
 pub returns : goal.returns

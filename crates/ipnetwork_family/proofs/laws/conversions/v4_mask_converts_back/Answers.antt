@@ -1,5 +1,4 @@
-use Rattle.std.proofs.Common.{ℕ, subst}
-use Rattle.ipnetwork_family.specs.Masks.{GivesPrefixOfMask}
+use Rattle.ipnetwork_family.proofs.Known.{ℕ, subst, GivesPrefixOfMask}
 use Rattle.ipnetwork_family.proofs.laws.conversions.v4_mask_converts_back.Goals as goal
 
 pub returns : goal.returns

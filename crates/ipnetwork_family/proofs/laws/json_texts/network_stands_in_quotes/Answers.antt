@@ -1,4 +1,4 @@
-use Rattle.ipnetwork_family.proofs.JsonTexts.{stands_in_quotes}
+use Rattle.ipnetwork_family.proofs.Known.{stands_in_quotes}
 use Rattle.ipnetwork_family.proofs.laws.json_texts.network_stands_in_quotes.Goals as goal
 
 pub returns : goal.returns

@@ -1,7 +1,4 @@
-use Rattle.std.proofs.Common.{subst}
-use Rattle.ipnetwork_family.specs.Family.{ParsesNetworkOf, text_of}
-use Rattle.ipnetwork_family.specs.JsonValues.{ReadsValue}
-use Rattle.ipnetwork_family.proofs.JsonTexts.{string_again}
+use Rattle.ipnetwork_family.proofs.Known.{subst, ParsesNetworkOf, text_of, ReadsValue, string_again}
 use Rattle.ipnetwork_family.proofs.laws.json_texts.network_through_json.Goals as goal
 
 pub returns-clause-back : goal.returns-clause-back

@@ -1,8 +1,4 @@
-use Rattle.ipnetwork_family.specs.Family.{NamesNetworkOf, text_of}
-use Rattle.ipnetwork_family.specs.NetworkText.{IsCause}
-use Rattle.ipnetwork_family.proofs.CanonicalNetworks.{canonical_names}
-use Rattle.ipnetwork_family.proofs.ComputedNetworks.{names_one}
-use Rattle.ipnetwork_family.proofs.JsonTexts.{value_reads_back}
+use Rattle.ipnetwork_family.proofs.Known.{NamesNetworkOf, text_of, IsCause, canonical_names, names_one, value_reads_back}
 use Rattle.ipnetwork_family.proofs.laws.json_texts.network_value_reads_back.Goals as goal
 
 pub returns : goal.returns

@@ -1,4 +1,4 @@
-use Rattle.ipnetwork_family.proofs.CanonicalNetworks.{canonical_bytes}
+use Rattle.ipnetwork_family.proofs.Known.{canonical_bytes}
 use Rattle.ipnetwork_family.proofs.laws.texts.canonical_network_bytes.Goals as goal
 
 pub returns : goal.returns

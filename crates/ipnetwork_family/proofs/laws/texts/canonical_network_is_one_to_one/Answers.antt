@@ -1,4 +1,4 @@
-use Rattle.ipnetwork_family.proofs.CanonicalNetworks.{canonical_differs}
+use Rattle.ipnetwork_family.proofs.Known.{canonical_differs}
 use Rattle.ipnetwork_family.proofs.laws.texts.canonical_network_is_one_to_one.Goals as goal
 
 pub returns : goal.returns

@@ -1,4 +1,4 @@
-use Rattle.ipnetwork_family.proofs.CanonicalNetworks.{canonical_names}
+use Rattle.ipnetwork_family.proofs.Known.{canonical_names}
 use Rattle.ipnetwork_family.proofs.laws.texts.canonical_network_names_it.Goals as goal
 
 pub returns : goal.returns

@@ -1,4 +1,4 @@
-use Rattle.ipnetwork_family.proofs.CanonicalNetworks.{canonical_reads}
+use Rattle.ipnetwork_family.proofs.Known.{canonical_reads}
 use Rattle.ipnetwork_family.proofs.laws.texts.canonical_network_reads_back.Goals as goal
 
 pub returns : goal.returns

@@ -1,4 +1,4 @@
-use Rattle.ipnetwork_family.proofs.ComputedNetworks.{names_one}
+use Rattle.ipnetwork_family.proofs.Known.{names_one}
 use Rattle.ipnetwork_family.proofs.laws.texts.network_text_names_one.Goals as goal
 
 pub returns : goal.returns

@@ -1,10 +1,5 @@
+use Rattle.ipnetwork_family.proofs.Known.{NamesV4, NamesV6, IsCause, IsV4Suffix, NamesV4Network, IsV6Suffix, NamesV6Network, parses_as_it_reads}
 use Rattle.ipnetwork_addr.specs.declared.error.AddrParseError.TheVariants as kinds
-use Rattle.ipnetwork_addr.specs.Ipv4Text.{NamesV4}
-use Rattle.ipnetwork_addr.specs.Ipv6Text.{NamesV6}
-use Rattle.ipnetwork_family.specs.NetworkText.{IsCause}
-use Rattle.ipnetwork_family.specs.Ipv4NetworkText.{IsV4Suffix, NamesV4Network}
-use Rattle.ipnetwork_family.specs.Ipv6NetworkText.{IsV6Suffix, NamesV6Network}
-use Rattle.ipnetwork_family.proofs.Parsed.{parses_as_it_reads}
 use Rattle.ipnetwork_family.proofs.laws.texts.parsing_is_reading.Goals as goal
 
 pub returns : goal.returns

@@ -1,4 +1,4 @@
-use Rattle.ipnetwork_family.proofs.ComputedV4.{prefix_number_sound, prefix_number_complete}
+use Rattle.ipnetwork_family.proofs.Known.{prefix_number_sound, prefix_number_complete}
 use Rattle.ipnetwork_family.proofs.laws.texts.prefix_number_is_computed.Goals as goal
 
 pub returns : goal.returns

@@ -1,8 +1,4 @@
-use Rattle.ipnetwork_addr.specs.Ipv4Text.{NamesV4}
-use Rattle.ipnetwork_addr.specs.Ipv6Text.{NamesV6}
-use Rattle.ipnetwork_family.specs.Ipv4NetworkText.{IsV4Suffix}
-use Rattle.ipnetwork_family.specs.Ipv6NetworkText.{IsV6Suffix}
-use Rattle.ipnetwork_family.proofs.NoSuffix.{no_suffix}
+use Rattle.ipnetwork_family.proofs.Known.{NamesV4, NamesV6, IsV4Suffix, IsV6Suffix, no_suffix}
 use Rattle.ipnetwork_family.proofs.laws.texts.suffix_is_refused.Goals as goal
 
 pub returns-clause-v4 : goal.returns-clause-v4

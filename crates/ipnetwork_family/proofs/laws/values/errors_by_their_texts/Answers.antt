@@ -1,4 +1,4 @@
-use Rattle.ipnetwork_family.proofs.ErrorTexts.{same_text, format_printed}
+use Rattle.ipnetwork_family.proofs.Known.{same_text, format_printed}
 use Rattle.ipnetwork_family.proofs.laws.values.errors_by_their_texts.Goals as goal
 
 pub returns : goal.returns

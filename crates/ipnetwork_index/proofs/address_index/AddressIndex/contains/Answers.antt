@@ -1,6 +1,4 @@
-use Rattle.std.proofs.Common.{ℕ, ◌^◌, ◌<◌, subst}
-use Rattle.ipnetwork_index.specs.Private.Partitions.{LiesAt}
-use Rattle.ipnetwork_index.proofs.Inside.{place_tells}
+use Rattle.ipnetwork_index.proofs.Known.{ℕ, ◌^◌, ◌<◌, subst, LiesAt, place_tells}
 use Rattle.ipnetwork_index.proofs.address_index.AddressIndex.contains.Goals as goal
 
 pub returns : goal.returns

@@ -1,6 +1,4 @@
-use Rattle.std.proofs.Common.{false, arith}
-use Rattle.ipnetwork_index.specs.Columns.{IsTold}
-use Rattle.ipnetwork_index.proofs.Telling.{none_answered, next_answered, all_answered}
+use Rattle.ipnetwork_index.proofs.Known.{false, arith, IsTold, none_answered, next_answered, all_answered}
 use Rattle.ipnetwork_index.proofs.address_index.AddressIndex.contains_each.Goals as goal
 
 pub loop-place-init : goal.loop-place-init

@@ -1,5 +1,4 @@
-use Rattle.std.proofs.Common.{false, map}
-use Rattle.ipnetwork_index.specs.Columns.{AreAnsweredUpTo, IsTold}
+use Rattle.ipnetwork_index.proofs.Known.{false, map, AreAnsweredUpTo, IsTold}
 use Rattle.ipnetwork_index.proofs.address_index.AddressIndex.contains_each.Given as goal
 
 abbrev pub invariant-loop-place : goal.invariant-loop-place

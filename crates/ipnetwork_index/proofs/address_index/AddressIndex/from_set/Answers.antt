@@ -1,8 +1,4 @@
-use Rattle.std.proofs.Common.{◌≡◌, ◌↔◌, ℕ, true, List, map, ap, subst, ◌∙◌}
-use Rattle.ipnetwork_blocks.specs.Aggregate.{InUnion}
-use Rattle.ipnetwork_sets.specs.Private.LeastBlocks.{least_blocks}
-use Rattle.ipnetwork_index.specs.Private.Partitions.{is_inside}
-use Rattle.ipnetwork_index.proofs.Cutting.{set_cuts_rise, blocks_back, whole_low}
+use Rattle.ipnetwork_index.proofs.Known.{◌≡◌, ◌↔◌, ℕ, true, List, map, ap, subst, ◌∙◌, InUnion, least_blocks, is_inside, set_cuts_rise, blocks_back, whole_low}
 use Rattle.ipnetwork_index.proofs.address_index.AddressIndex.from_set.Goals as goal
 
 pub closed-requires : goal.closed-requires

@@ -1,10 +1,4 @@
-use Rattle.std.proofs.Common.{ℕ, sym, subst}
-use Rattle.ipnetwork_blocks.specs.Aggregate.{InUnion}
-use Rattle.ipnetwork_sets.specs.Private.LeastBlocks.{least_blocks}
-use Rattle.ipnetwork_index.specs.Turns.{CutInto}
-use Rattle.ipnetwork_index.specs.Private.Partitions.{is_inside}
-use Rattle.ipnetwork_index.proofs.Inside.{blocks_tell}
-use Rattle.ipnetwork_index.proofs.Turning.{cut_into}
+use Rattle.ipnetwork_index.proofs.Known.{ℕ, sym, subst, InUnion, least_blocks, CutInto, is_inside, blocks_tell, cut_into}
 use Rattle.ipnetwork_index.proofs.address_index.AddressIndex.range_count.Goals as goal
 
 pub returns : goal.returns

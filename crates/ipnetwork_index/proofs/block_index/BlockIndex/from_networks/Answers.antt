@@ -1,6 +1,4 @@
-use Rattle.std.proofs.Common.{map}
-use Rattle.ipnetwork_table.specs.Table.{by_pair}
-use Rattle.ipnetwork_index.proofs.ListedBlocks.{its_table, has_blocks, has_value}
+use Rattle.ipnetwork_index.proofs.Known.{map, by_pair, its_table, has_blocks, has_value}
 use Rattle.ipnetwork_index.proofs.block_index.BlockIndex.from_networks.Goals as goal
 
 pub of-requires : goal.of-requires

@@ -1,5 +1,4 @@
-use Rattle.std.proofs.Common.{◌+◌, arith}
-use Rattle.ipnetwork_index.proofs.Lowering.{starts_read, ordered, rising, found_in_eight, found_behind}
+use Rattle.ipnetwork_index.proofs.Known.{◌+◌, arith, starts_read, ordered, rising, found_in_eight, found_behind}
 use Rattle.ipnetwork_index.proofs.low_halves.LowHalves.place_of.Goals as goal
 
 pub overflow_sub-end : goal.overflow_sub-end

@@ -1,5 +1,4 @@
-use Rattle.std.proofs.Common.{◌≡◌, ℕ, ◌-◌, List, length, map, take, arith}
-use Rattle.std.proofs.lemmas.List.{length-map, length-take}
+use Rattle.ipnetwork_index.proofs.Known.{◌≡◌, ℕ, ◌-◌, List, length, map, take, arith, length-map, length-take}
 use Rattle.ipnetwork_index.proofs.partition.Partition.len.Goals as goal
 
 pub returns : goal.returns

@@ -1,6 +1,4 @@
-use Rattle.std.proofs.Common.{ℕ, List, map}
-use Rattle.ipnetwork_index.specs.Searches.{AreStarts}
-use Rattle.ipnetwork_index.proofs.Halving.{halved}
+use Rattle.ipnetwork_index.proofs.Known.{ℕ, List, map, AreStarts, halved}
 use Rattle.ipnetwork_index.proofs.partition.Partition.of_halves.Goals as goal
 
 pub invariant_of-result : goal.invariant_of-result

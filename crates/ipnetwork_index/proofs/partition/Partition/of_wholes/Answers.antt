@@ -1,5 +1,4 @@
-use Rattle.std.proofs.Common.{ℕ, List, map}
-use Rattle.ipnetwork_index.specs.Searches.{AreStarts}
+use Rattle.ipnetwork_index.proofs.Known.{ℕ, List, map, AreStarts}
 use Rattle.ipnetwork_index.proofs.Halving.{whole}
 use Rattle.ipnetwork_index.proofs.partition.Partition.of_wholes.Goals as goal
 

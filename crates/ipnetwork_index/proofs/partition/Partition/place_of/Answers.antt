@@ -1,4 +1,4 @@
-use Rattle.ipnetwork_index.proofs.Starting.{is_within, lies}
+use Rattle.ipnetwork_index.proofs.Known.{is_within, lies}
 use Rattle.ipnetwork_index.proofs.partition.Partition.place_of.Goals as goal
 
 pub place_of-requires-clause-within : goal.place_of-requires-clause-within

@@ -1,4 +1,4 @@
-use Rattle.ipnetwork_index.proofs.Answering.{made_finds}
+use Rattle.ipnetwork_index.proofs.Known.{made_finds}
 use Rattle.ipnetwork_index.proofs.ranges.Ranges.lookup.Goals as goal
 
 pub place_of-place-requires : goal.place_of-place-requires

@@ -1,7 +1,4 @@
-use Rattle.std.proofs.Common.{List, ℕ, map}
-use Rattle.ipnetwork_table.specs.Table.{by_pair}
-use Rattle.ipnetwork_index.proofs.Answering.{answered}
-use Rattle.ipnetwork_index.proofs.Sweeping.{entries_listed}
+use Rattle.ipnetwork_index.proofs.Known.{List, ℕ, map, by_pair, answered, entries_listed}
 use Rattle.ipnetwork_index.proofs.ranges.Ranges.of.Goals as goal
 
 pub answers_of-requires-clause-listed : goal.answers_of-requires-clause-listed

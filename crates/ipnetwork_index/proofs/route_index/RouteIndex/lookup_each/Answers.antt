@@ -1,6 +1,4 @@
-use Rattle.std.proofs.Common.{None, arith}
-use Rattle.ipnetwork_table.specs.Table.{Finds}
-use Rattle.ipnetwork_index.proofs.Telling.{none_answered, next_answered, all_answered}
+use Rattle.ipnetwork_index.proofs.Known.{None, arith, Finds, none_answered, next_answered, all_answered}
 use Rattle.ipnetwork_index.proofs.route_index.RouteIndex.lookup_each.Goals as goal
 
 pub loop-place-init : goal.loop-place-init

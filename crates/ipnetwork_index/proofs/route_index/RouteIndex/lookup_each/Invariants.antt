@@ -1,6 +1,4 @@
-use Rattle.std.proofs.Common.{None, map}
-use Rattle.ipnetwork_table.specs.Table.{Finds}
-use Rattle.ipnetwork_index.specs.Columns.{AreAnsweredUpTo}
+use Rattle.ipnetwork_index.proofs.Known.{None, map, Finds, AreAnsweredUpTo}
 use Rattle.ipnetwork_index.proofs.route_index.RouteIndex.lookup_each.Given as goal
 
 abbrev pub invariant-loop-place : goal.invariant-loop-place

@@ -1,9 +1,8 @@
-use Rattle.std.proofs.Common.{◌-◌, refl, arith}
-use Rattle.ipnetwork_sets.specs.Counts.{count_number}
-use Rattle.ipnetwork_sets.proofs.Totals.{all_counted}
+use Rattle.ipnetwork_sets.proofs.Known.{◌-◌, refl, arith, count_number, all_counted}
 use Rattle.ipnetwork_sets.proofs.address_count.AddressCount.add_block.Goals as goal
 
 pub returns-then-host_bits-ge128 : goal.returns-then-host_bits-ge128
 returns-then-host_bits-ge128 g c =
-    all_counted g.N.CidrNetwork.WIDTH (g.N.CidrNetwork.pair c.args.network).prefix (count_number c.args.self) (g.N.CidrNetwork.WIDTH - (g.N.CidrNetwork.pair c.args.network).prefix)
+    all_counted g.N.CidrNetwork.WIDTH (g.N.CidrNetwork.pair c.args.network).prefix (count_number c.args.self)
+    (g.N.CidrNetwork.WIDTH - (g.N.CidrNetwork.pair c.args.network).prefix)
     refl (omega (arith, c.prefix.ensures.made, c.if-host_bits-ge128.true))

@@ -1,9 +1,9 @@
-use Rattle.std.proofs.Common.{◌≡◌, ◌↔◌, List, IsTrue, map, subst, ap, ◌∙◌}
-use Rattle.ipnetwork_family.specs.Network.{Network}
-use Rattle.ipnetwork_blocks.specs.Aggregate.{LiesInUnion}
+use Rattle.ipnetwork_sets.proofs.Known.{◌≡◌, ◌↔◌, List, IsTrue, map, subst, ap, ◌∙◌, Network, LiesInUnion}
 use Rattle.ipnetwork_sets.proofs.address_set.AddressSet.covers.Goals as goal
 
 pub returns : goal.returns
 returns g c =
-    let is : map g.N.CidrNetwork.pair c.as_slice.result.now ≡ c.args.self.now = ap (map g.N.CidrNetwork.pair) c.as_slice.ensures.value ∙ c.self.view_is in
-    subst (λ (t : List Network). IsTrue c.covers.result ↔ LiesInUnion g.N.CidrNetwork.WIDTH (g.N.CidrNetwork.pair c.args.network) t) is c.covers.ensures
+    let is : map g.N.CidrNetwork.pair c.as_slice.result.now ≡ c.args.self.now =
+    ap (map g.N.CidrNetwork.pair) c.as_slice.ensures.value ∙ c.self.view_is in
+    subst (λ (t : List Network). IsTrue c.covers.result
+    ↔ LiesInUnion g.N.CidrNetwork.WIDTH (g.N.CidrNetwork.pair c.args.network) t) is c.covers.ensures

@@ -1,5 +1,4 @@
-use Rattle.std.proofs.Common.{length}
-use Rattle.ipnetwork_sets.proofs.FreeBlocks.{IsPassing}
+use Rattle.ipnetwork_sets.proofs.Known.{length, IsPassing}
 use Rattle.ipnetwork_sets.proofs.address_set.AddressSet.first_free.Given as goal
 
 abbrev pub invariant-loop-piece : goal.invariant-loop-piece

@@ -1,5 +1,4 @@
-use Rattle.std.proofs.Common.{ℕ, ◌≤◌, List, length, drop, map, take, vec_capacity}
-use Rattle.ipnetwork_sets.proofs.FromRanges.{HasRanges, IsOnTheWay}
+use Rattle.ipnetwork_sets.proofs.Known.{ℕ, ◌≤◌, List, length, drop, map, take, vec_capacity, HasRanges, IsOnTheWay}
 use Rattle.ipnetwork_sets.proofs.address_set.AddressSet.from_ranges.Given as goal
 
 abbrev pub invariant-loop-range : goal.invariant-loop-range

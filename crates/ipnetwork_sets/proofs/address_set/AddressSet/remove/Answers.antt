@@ -1,8 +1,7 @@
-use Rattle.std.proofs.Common.{◌↔◌, IsTrue, IfOk, List, subst}
-use Rattle.ipnetwork_family.specs.Network.{Network}
-use Rattle.ipnetwork_sets.specs.Sets.{MeetsUnion}
+use Rattle.ipnetwork_sets.proofs.Known.{◌↔◌, IsTrue, IfOk, List, subst, Network, MeetsUnion}
 use Rattle.ipnetwork_sets.proofs.address_set.AddressSet.remove.Goals as goal
 
 pub returns-clause-removed : goal.returns-clause-removed
 returns-clause-removed g c =
-    subst (λ (l : List Network). IfOk c.remove.result (λ removed. IsTrue removed ↔ MeetsUnion g.N.CidrNetwork.WIDTH (g.N.CidrNetwork.pair c.args.network) l)) c.self.view_is c.remove.ensures.removed
+    subst (λ (l : List Network). IfOk c.remove.result (λ removed. IsTrue removed ↔ MeetsUnion g.N.CidrNetwork.WIDTH
+    (g.N.CidrNetwork.pair c.args.network) l)) c.self.view_is c.remove.ensures.removed

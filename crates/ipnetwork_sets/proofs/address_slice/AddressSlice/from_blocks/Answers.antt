@@ -1,5 +1,4 @@
-use Rattle.std.proofs.Common.{refl}
-use Rattle.std.proofs.lemmas.Bool.{iff_false}
+use Rattle.ipnetwork_sets.proofs.Known.{refl, iff_false}
 use Rattle.ipnetwork_sets.proofs.address_slice.AddressSlice.from_blocks.Goals as goal
 
 pub returns-then-is_address_set : goal.returns-then-is_address_set

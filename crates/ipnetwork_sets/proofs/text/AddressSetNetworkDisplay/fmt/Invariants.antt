@@ -1,11 +1,10 @@
-use Rattle.std.proofs.Common.{take}
-use Rattle.std.specs.Fmt.{HasWritten, HasWrittenStyled, IsPlainFormatter, IsFlush}
-use Rattle.ipnetwork_family.specs.Family.{text_of}
-use Rattle.ipnetwork_sets.specs.Texts.{lines_of}
+use Rattle.ipnetwork_sets.proofs.Known.{take, HasWritten, HasWrittenStyled, IsPlainFormatter, IsFlush, text_of, lines_of}
 use Rattle.ipnetwork_sets.proofs.text.AddressSetNetworkDisplay.fmt.Given as goal
 
 abbrev pub invariant-loop-block : goal.invariant-loop-block
 invariant-loop-block g l = record {
-  plain : IsPlainFormatter l.initial.f → HasWritten g.W.Write.write_str_gives l.initial.f (lines_of (text_of g.A.Address.family) (take l.block-index l.blocks)) l.f;
-  styled : IsFlush l.initial.f → HasWrittenStyled g.W.Write.write_str_gives l.initial.f (lines_of (text_of g.A.Address.family) (take l.block-index l.blocks)) l.f;
+  plain : IsPlainFormatter l.initial.f → HasWritten g.W.Write.write_str_gives l.initial.f
+      (lines_of (text_of g.A.Address.family) (take l.block-index l.blocks)) l.f;
+  styled : IsFlush l.initial.f → HasWrittenStyled g.W.Write.write_str_gives l.initial.f
+      (lines_of (text_of g.A.Address.family) (take l.block-index l.blocks)) l.f;
 }

@@ -1,17 +1,15 @@
-use Rattle.std.proofs.Common.{◌≡◌, ◌++◌, [], ◌∷◌, ℕ, List, Some, map, refl, sym, ap, ◌∙◌}
-use Rattle.ipnetwork_family.specs.Network.{Network, low}
-use Rattle.ipnetwork_sets.specs.Private.LeastBlocks.{either_blocks}
-use Rattle.ipnetwork_sets.specs.Private.Together.{at_hand}
-use Rattle.ipnetwork_sets.proofs.Together.{either_none, goes_within, one_is_range, range_of, next_is_set, next_steps, next_goes}
+use Rattle.ipnetwork_sets.proofs.Known.{◌≡◌, ◌++◌, [], ◌∷◌, ℕ, List, Some, map, refl, sym, ap, ◌∙◌, Network, low, either_blocks, at_hand, either_none, goes_within, one_is_range, range_of, next_is_set, next_steps, next_goes}
 use Rattle.ipnetwork_sets.proofs.union.UnionIterator.next.Goals as goal
 
 pub invariant_of-self : goal.invariant_of-self
 invariant_of-self g c =
     let w : ℕ = g.N.CidrNetwork.WIDTH in
-    let rest : List Network = either_blocks w (map g.H.HoldsNetwork.held c.self.inside.first.now) (map g.H.HoldsNetwork.held c.self.inside.second.now) in (
+    let rest : List Network = either_blocks w (map g.H.HoldsNetwork.held c.self.inside.first.now)
+    (map g.H.HoldsNetwork.held c.self.inside.second.now) in (
       c.self.invariant.0,
       c.self.invariant.1,
-      goes_within w (at_hand c.self.inside.run) (at_hand c.next_at_hand.new.run) rest (g.N.CidrNetwork.pair c.in-Some.block) c.one_block.ensures.apart c.self.invariant.2 c.in-Some.ensures,
+      goes_within w (at_hand c.self.inside.run) (at_hand c.next_at_hand.new.run) rest
+          (g.N.CidrNetwork.pair c.in-Some.block) c.one_block.ensures.apart c.self.invariant.2 c.in-Some.ensures,
     )
 
 pub returns-in_default-next_run-clause-steps : goal.returns-in_default-next_run-clause-steps
@@ -35,9 +33,11 @@ invariant_of-self-2 g c =
       (c.in-Some-next_run.ensures.2, h.grown.others_are_set),
       (c.in-Some-next_run.ensures.3, h.grown.rest_is_set),
       next_is_set w pair _ _ _ _ c.args.self.now (at_hand c.self.inside.run)
-          (low w (pair run.0)) (g.N.CidrNetwork.number run.1) c.range_to_blocks-self-inside.result (at_hand c.next_at_hand-2.new.run) c.one_block.ensures.apart c.ranges_are_shortest.ensures.range
+          (low w (pair run.0)) (g.N.CidrNetwork.number run.1) c.range_to_blocks-self-inside.result
+          (at_hand c.next_at_hand-2.new.run) c.one_block.ensures.apart c.ranges_are_shortest.ensures.range
           c.self.view_is c.in_default.ensures.0 c.self.invariant.2 h
-          (range_of w (g.N.CidrNetwork.number c.network.result) (low w (pair run.0)) (g.N.CidrNetwork.number run.1) c.range_to_blocks-self-inside.result
+          (range_of w (g.N.CidrNetwork.number c.network.result) (low w (pair run.0)) (g.N.CidrNetwork.number run.1)
+          c.range_to_blocks-self-inside.result
           c.network.ensures c.range_to_blocks-self-inside.ensures.blocks)
           c.next_at_hand-2.result c.next_at_hand-2.ensures,
     )
@@ -47,13 +47,18 @@ returns g c =
     let w : ℕ = g.N.CidrNetwork.WIDTH in
     let pair = g.N.CidrNetwork.pair in
     let run = c.in-Some-next_run.found in
-    let range = range_of w (g.N.CidrNetwork.number c.network.result) (low w (pair run.0)) (g.N.CidrNetwork.number run.1) c.range_to_blocks-self-inside.result
+    let range = range_of w (g.N.CidrNetwork.number c.network.result) (low w (pair run.0)) (g.N.CidrNetwork.number run.1)
+    c.range_to_blocks-self-inside.result
     c.network.ensures c.range_to_blocks-self-inside.ensures.blocks in
     record {
-      steps = next_steps w pair _ _ _ _ c.args.self.now (at_hand c.self.inside.run) (low w (pair run.0)) (g.N.CidrNetwork.number run.1) c.range_to_blocks-self-inside.result (at_hand c.next_at_hand-2.new.run)
-          c.one_block.ensures.apart c.ranges_are_shortest.ensures.range c.self.view_is c.in_default.ensures.0 c.self.invariant.2 c.in-Some-next_run.ensures.1 range c.next_at_hand-2.result c.next_at_hand-2.ensures;
-      goes = next_goes w pair _ _ _ _ c.args.self.now (at_hand c.self.inside.run) (low w (pair run.0)) (g.N.CidrNetwork.number run.1) c.range_to_blocks-self-inside.result (at_hand c.next_at_hand-2.new.run)
-          c.one_block.ensures.apart c.ranges_are_shortest.ensures.range c.self.view_is c.in_default.ensures.0 c.self.invariant.2 c.in-Some-next_run.ensures.1 range c.next_at_hand-2.result c.next_at_hand-2.ensures;
+      steps = next_steps w pair _ _ _ _ c.args.self.now (at_hand c.self.inside.run) (low w (pair run.0))
+          (g.N.CidrNetwork.number run.1) c.range_to_blocks-self-inside.result (at_hand c.next_at_hand-2.new.run)
+          c.one_block.ensures.apart c.ranges_are_shortest.ensures.range c.self.view_is c.in_default.ensures.0
+          c.self.invariant.2 c.in-Some-next_run.ensures.1 range c.next_at_hand-2.result c.next_at_hand-2.ensures;
+      goes = next_goes w pair _ _ _ _ c.args.self.now (at_hand c.self.inside.run) (low w (pair run.0))
+          (g.N.CidrNetwork.number run.1) c.range_to_blocks-self-inside.result (at_hand c.next_at_hand-2.new.run)
+          c.one_block.ensures.apart c.ranges_are_shortest.ensures.range c.self.view_is c.in_default.ensures.0
+          c.self.invariant.2 c.in-Some-next_run.ensures.1 range c.next_at_hand-2.result c.next_at_hand-2.ensures;
     }
 
 pub invariant_of-self-then-ends_at : goal.invariant_of-self-then-ends_at
@@ -67,8 +72,10 @@ invariant_of-self-then-ends_at g c =
       (h.2, h.1.grown.others_are_set),
       (h.3, h.1.grown.rest_is_set),
       next_is_set w pair _ _ _ _ c.args.self.now (at_hand c.self.inside.run)
-          (low w (pair run.0)) last (Some (pair run.0 ∷ [])) [] c.one_block.ensures.apart c.ranges_are_shortest.ensures.range
-          c.self.view_is c.in_default.ensures.0 c.self.invariant.2 h.1 (one_is_range w (pair run.0) last h.0 (c.ends_at.ensures.0 c.if-ends_at.true)) (Some run.0) refl,
+          (low w (pair run.0)) last (Some (pair run.0 ∷ [])) [] c.one_block.ensures.apart
+          c.ranges_are_shortest.ensures.range
+          c.self.view_is c.in_default.ensures.0 c.self.invariant.2 h.1
+          (one_is_range w (pair run.0) last h.0 (c.ends_at.ensures.0 c.if-ends_at.true)) (Some run.0) refl,
     )
 
 pub returns-then-ends_at : goal.returns-then-ends_at
@@ -80,8 +87,12 @@ returns-then-ends_at g c =
     let h = c.in-Some-next_run.ensures in
     let range = one_is_range w (pair run.0) last h.0 (c.ends_at.ensures.0 c.if-ends_at.true) in
     record {
-      steps = next_steps w pair _ _ _ _ c.args.self.now (at_hand c.self.inside.run) (low w (pair run.0)) last (Some (pair run.0 ∷ [])) []
-          c.one_block.ensures.apart c.ranges_are_shortest.ensures.range c.self.view_is c.in_default.ensures.0 c.self.invariant.2 h.1 range (Some run.0) refl;
-      goes = next_goes w pair _ _ _ _ c.args.self.now (at_hand c.self.inside.run) (low w (pair run.0)) last (Some (pair run.0 ∷ [])) []
-          c.one_block.ensures.apart c.ranges_are_shortest.ensures.range c.self.view_is c.in_default.ensures.0 c.self.invariant.2 h.1 range (Some run.0) refl;
+      steps = next_steps w pair _ _ _ _ c.args.self.now (at_hand c.self.inside.run) (low w (pair run.0)) last
+          (Some (pair run.0 ∷ [])) []
+          c.one_block.ensures.apart c.ranges_are_shortest.ensures.range c.self.view_is c.in_default.ensures.0
+          c.self.invariant.2 h.1 range (Some run.0) refl;
+      goes = next_goes w pair _ _ _ _ c.args.self.now (at_hand c.self.inside.run) (low w (pair run.0)) last
+          (Some (pair run.0 ∷ [])) []
+          c.one_block.ensures.apart c.ranges_are_shortest.ensures.range c.self.view_is c.in_default.ensures.0
+          c.self.invariant.2 h.1 range (Some run.0) refl;
     }

@@ -1,4 +1,4 @@
-use Rattle.ipnetwork_table.proofs.Keys.{none_at_first, one_more, one_less}
+use Rattle.ipnetwork_table.proofs.Known.{none_at_first, one_more, one_less}
 use Rattle.ipnetwork_table.proofs.laws.entries.keys_without_host_bits.Goals as goal
 
 pub returns-clause-empty : goal.returns-clause-empty

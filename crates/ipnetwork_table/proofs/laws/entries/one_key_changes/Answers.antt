@@ -1,4 +1,4 @@
-use Rattle.ipnetwork_table.proofs.Keys.{set_one, take_one}
+use Rattle.ipnetwork_table.proofs.Known.{set_one, take_one}
 use Rattle.ipnetwork_table.proofs.laws.entries.one_key_changes.Goals as goal
 
 pub returns-clause-insert : goal.returns-clause-insert

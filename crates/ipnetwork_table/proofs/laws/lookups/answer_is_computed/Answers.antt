@@ -1,4 +1,4 @@
-use Rattle.ipnetwork_table.proofs.LongestEntry.{computed_answers}
+use Rattle.ipnetwork_table.proofs.Known.{computed_answers}
 use Rattle.ipnetwork_table.proofs.laws.lookups.answer_is_computed.Goals as goal
 
 pub returns : goal.returns

@@ -1,4 +1,4 @@
-use Rattle.ipnetwork_table.proofs.OneAnswer.{blocks_meet}
+use Rattle.ipnetwork_table.proofs.Known.{blocks_meet}
 use Rattle.ipnetwork_table.proofs.laws.lookups.blocks_of_any_width_that_meet.Goals as goal
 
 pub returns : goal.returns

@@ -1,7 +1,4 @@
-use Rattle.std.proofs.Common.{◌∙◌, sym}
-use Rattle.std.proofs.lemmas.List.{get_or-replicate}
-use Rattle.ipnetwork_table.proofs.Lengths.{none_counted}
-use Rattle.ipnetwork_table.proofs.Longest.{new_table}
+use Rattle.ipnetwork_table.proofs.Known.{◌∙◌, sym, get_or-replicate, none_counted, new_table}
 use Rattle.ipnetwork_table.proofs.table.PrefixTable.clear.Goals as goal
 
 pub invariant_of-self : goal.invariant_of-self

@@ -1,7 +1,4 @@
-use Rattle.std.proofs.Common.{◌≡◌, ◌<◌, subst, ap, ◌∙◌, arith}
-use Rattle.ipnetwork_family.specs.Network.{Member, block_at}
-use Rattle.ipnetwork_table.specs.Private.Nearest.{IsLastUpTo, ShareAtMost}
-use Rattle.ipnetwork_table.proofs.Nearest.{fewer_shared, last_is_longest, none_above_shared}
+use Rattle.ipnetwork_table.proofs.Known.{◌≡◌, ◌<◌, subst, ap, ◌∙◌, arith, Member, block_at, IsLastUpTo, ShareAtMost, fewer_shared, last_is_longest, none_above_shared}
 use Rattle.ipnetwork_table.proofs.table.PrefixTable.counted_lookup.Goals as goal
 
 pub returns-then-contains-clause-answer : goal.returns-then-contains-clause-answer
@@ -38,7 +35,8 @@ returns-clause-at_most g c =
     c.in-Some.ensures.cases.1 ∙ ap (block_at w x) c.WIDTH.ensures in
     let fewer : shared < near.prefix =
     fewer_shared w x shared near c.in-Some.ensures.address c.shared_length.ensures.within
-    (subst (λ n. Member w (record { address = n.address; prefix = shared }) near.address) end c.shared_length.ensures.shared)
+    (subst (λ n. Member w (record { address = n.address; prefix = shared }) near.address) end
+    c.shared_length.ensures.shared)
     (λ holds. let yes = c.contains.ensures.1 holds in cc) in
     let key = c.self.invariant.0 near c.in_ok-near.ensures.network.0 in
     omega (arith, fewer, key.network.prefix_fits, c.longest_up_to.ensures.at_most, c.last_up_to.ensures.counted)

@@ -1,5 +1,4 @@
-use Rattle.std.proofs.Common.{◌+◌, ◌≤◌}
-use Rattle.ipnetwork_table.specs.Private.Nearest.{NoneAbove}
+use Rattle.ipnetwork_table.proofs.Known.{◌+◌, ◌≤◌, NoneAbove}
 use Rattle.ipnetwork_table.proofs.table.PrefixTable.longest_up_to.Given as goal
 
 abbrev pub invariant-shorter : goal.invariant-shorter

@@ -1,5 +1,4 @@
-use Rattle.std.proofs.Common.{◌≡◌, ◌+◌, ◌≤◌}
-use Rattle.ipnetwork_table.specs.Private.Nearest.{NoneAbove}
+use Rattle.ipnetwork_table.proofs.Known.{◌≡◌, ◌+◌, ◌≤◌, NoneAbove}
 use Rattle.ipnetwork_table.proofs.table.PrefixTable.lookup_steps.Given as goal
 
 abbrev pub invariant-shorter : goal.invariant-shorter

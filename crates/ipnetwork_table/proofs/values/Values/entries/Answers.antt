@@ -1,9 +1,8 @@
-use Rattle.std.proofs.Common.{◌∙◌, ap}
-use Rattle.ipnetwork_table.specs.Table.{by_pair}
-use Rattle.ipnetwork_table.proofs.Pairs.{listed}
+use Rattle.ipnetwork_table.proofs.Known.{◌∙◌, ap, by_pair, listed}
 use Rattle.ipnetwork_table.proofs.values.Values.entries.Goals as goal
 
 pub returns : goal.returns
 returns g c = rw (← c.self.view_is)
     (ap (by_pair g.N.CidrNetwork.pair) (c.new.ensures ∙ c.iter.ensures.rest)
-    ∙ listed g.N.CidrNetwork.pair g.N.Ord.cmp g.met.N.CidrNetwork.network_order c.self.inside.tree.entries c.iter.ensures.ordered)
+    ∙ listed g.N.CidrNetwork.pair g.N.Ord.cmp g.met.N.CidrNetwork.network_order c.self.inside.tree.entries
+    c.iter.ensures.ordered)

@@ -1,8 +1,4 @@
-use Rattle.std.proofs.Common.{ℕ, List, arith}
-use Rattle.ipnetwork_addr.specs.declared.ip.IpAddr.{IpAddr}
-use Rattle.ipnetwork_addr.specs.declared.ip.IpAddr.TheVariants.{V4, V6}
-use Rattle.ipnetwork_addr.specs.Either.{NamesIp, FitsIp}
-use Rattle.ipnetwork_witness.proofs.SameAddresses.{v4_ours, v6_ours}
+use Rattle.ipnetwork_witness.proofs.Known.{ℕ, List, arith, IpAddr, V4, V6, NamesIp, FitsIp, v4_ours, v6_ours}
 use Rattle.ipnetwork_witness.proofs.laws.names.ip_text_fits.Goals as goal
 
 pub returns : goal.returns
@@ -16,5 +12,6 @@ returns c = go
 pub no_text_of_33_bits : goal.returns → goal.Start → (text : List ℕ) → ¬ (NamesIp text (V4 4294967296))
 no_text_of_33_bits law c text named = omega (arith, law c text (V4 4294967296) named)
 
-pub no_text_of_129_bits : goal.returns → goal.Start → (text : List ℕ) → ¬ (NamesIp text (V6 340282366920938463463374607431768211456))
+pub no_text_of_129_bits : goal.returns → goal.Start → (text : List ℕ)
+    → ¬ (NamesIp text (V6 340282366920938463463374607431768211456))
 no_text_of_129_bits law c text named = omega (arith, law c text (V6 340282366920938463463374607431768211456) named)

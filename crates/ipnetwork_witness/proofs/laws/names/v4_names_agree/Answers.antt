@@ -1,4 +1,4 @@
-use Rattle.ipnetwork_witness.proofs.SameAddresses.{v4_texts}
+use Rattle.ipnetwork_witness.proofs.Known.{v4_texts}
 use Rattle.ipnetwork_witness.proofs.laws.names.v4_names_agree.Goals as goal
 
 pub returns : goal.returns

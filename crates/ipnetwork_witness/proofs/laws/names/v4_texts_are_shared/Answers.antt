@@ -1,4 +1,4 @@
-use Rattle.ipnetwork_witness.proofs.SameAddresses.{v4_ours, v4_theirs}
+use Rattle.ipnetwork_witness.proofs.Known.{v4_ours, v4_theirs}
 use Rattle.ipnetwork_witness.proofs.laws.names.v4_texts_are_shared.Goals as goal
 
 pub returns-clause-ours : goal.returns-clause-ours

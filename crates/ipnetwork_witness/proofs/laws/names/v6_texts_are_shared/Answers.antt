@@ -1,4 +1,4 @@
-use Rattle.ipnetwork_witness.proofs.SameAddresses.{v6_ours, v6_theirs}
+use Rattle.ipnetwork_witness.proofs.Known.{v6_ours, v6_theirs}
 use Rattle.ipnetwork_witness.proofs.laws.names.v6_texts_are_shared.Goals as goal
 
 pub returns-clause-ours : goal.returns-clause-ours

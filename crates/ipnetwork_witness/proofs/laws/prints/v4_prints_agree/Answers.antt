@@ -1,7 +1,4 @@
-use Rattle.std.proofs.Common.{sym, ap, ◌∙◌}
-use Rattle.std.specs.Net.Text.{ipv4_text}
-use Rattle.ipnetwork_witness.proofs.Dotted.{v4_prints}
-use Rattle.ipnetwork_witness.proofs.SameAddresses.{octets_are}
+use Rattle.ipnetwork_witness.proofs.Known.{sym, ap, ◌∙◌, ipv4_text, v4_prints, octets_are}
 use Rattle.ipnetwork_witness.proofs.laws.prints.v4_prints_agree.Goals as goal
 
 pub returns : goal.returns

@@ -1,4 +1,4 @@
-use Rattle.ipnetwork_witness.proofs.Agreements.{readers_agree}
+use Rattle.ipnetwork_witness.proofs.Known.{readers_agree}
 use Rattle.ipnetwork_witness.proofs.laws.readers.v4_readers_agree.Goals as goal
 
 pub returns : goal.returns

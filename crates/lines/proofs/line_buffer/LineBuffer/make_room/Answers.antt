@@ -1,7 +1,4 @@
-use Rattle.std.proofs.Common.{◌+◌, ◌≤◌, length, take, drop, refl, sym, subst, arith, length-take, length-drop}
-use Rattle.std.proofs.Math.Seq.{drop-nil}
-use Rattle.lines.specs.LineBuffers.{waits, HasNoFeed, IsPending}
-use Rattle.lines.proofs.HandingOut.{all_dropped}
+use Rattle.lines.proofs.Known.{◌+◌, ◌≤◌, length, take, drop, refl, sym, subst, arith, length-take, length-drop, drop-nil, waits, HasNoFeed, IsPending, all_dropped}
 use Rattle.lines.proofs.line_buffer.LineBuffer.make_room.Goals as goal
 
 pub returns-then-self-clause-holds : goal.returns-then-self-clause-holds

@@ -1,7 +1,4 @@
-use Rattle.std.proofs.Common.{inl, inr, take, refl, sym, subst, arith}
-use Rattle.std.proofs.lemmas.List.{length-take-le}
-use Rattle.lines.specs.LineBuffers.{waits, HasNoFeed, IsPending}
-use Rattle.lines.proofs.HandingOut.{absent_behind, ends_line, ends_too_long}
+use Rattle.lines.proofs.Known.{inl, inr, take, refl, sym, subst, arith, length-take-le, waits, HasNoFeed, IsPending, absent_behind, ends_line, ends_too_long}
 use Rattle.lines.proofs.line_buffer.LineBuffer.next_unended.Goals as goal
 
 pub invariant_of-self : goal.invariant_of-self
@@ -19,25 +16,31 @@ invariant_of-self c =
         within = places.within;
       },
       c.self.invariant.1,
-      λ place low high. absent_behind front inside.start (subst (λ v. HasNoFeed (waits v)) (sym c.self.view_is) c.requires) place low (omega (arith, high, size)),
+      λ place low high. absent_behind front inside.start
+          (subst (λ v. HasNoFeed (waits v)) (sym c.self.view_is) c.requires) place low (omega (arith, high, size)),
     )
 
 pub returns-then-self-clause-gives : goal.returns-then-self-clause-gives
 returns-then-self-clause-gives c = λ pending h.
     let inside = c.self.inside in
-    ends_too_long inside.buffer.now inside.start inside.end inside.limit inside.dropped _ inside.ended _ _ _ _ pending (subst (λ v. IsPending v pending) (sym c.self.view_is) h)
-    (subst (λ v. HasNoFeed (waits v)) (sym c.self.view_is) c.requires) refl c.if-not-self.false c.self.invariant.0.within (inl c.if-self.true)
+    ends_too_long inside.buffer.now inside.start inside.end inside.limit inside.dropped _ inside.ended _ _ _ _ pending
+    (subst (λ v. IsPending v pending) (sym c.self.view_is) h)
+    (subst (λ v. HasNoFeed (waits v)) (sym c.self.view_is) c.requires) refl c.if-not-self.false
+    c.self.invariant.0.within (inl c.if-self.true)
 
 pub returns-then-count-self-clause-gives : goal.returns-then-count-self-clause-gives
 returns-then-count-self-clause-gives c = λ pending h.
     let inside = c.self.inside in
-    ends_too_long inside.buffer.now inside.start inside.end inside.limit inside.dropped _ inside.ended _ _ _ _ pending (subst (λ v. IsPending v pending) (sym c.self.view_is) h)
-    (subst (λ v. HasNoFeed (waits v)) (sym c.self.view_is) c.requires) c.if-self.false c.if-not-self.false c.self.invariant.0.within
+    ends_too_long inside.buffer.now inside.start inside.end inside.limit inside.dropped _ inside.ended _ _ _ _ pending
+    (subst (λ v. IsPending v pending) (sym c.self.view_is) h)
+    (subst (λ v. HasNoFeed (waits v)) (sym c.self.view_is) c.requires) c.if-self.false c.if-not-self.false
+    c.self.invariant.0.within
     (inr (c.if-count-self.true, c.if-self.false))
 
 pub returns-clause-gives : goal.returns-clause-gives
 returns-clause-gives c = λ pending h.
     let inside = c.self.inside in
-    ends_line inside.buffer.now inside.start inside.end inside.limit inside.dropped inside.ended _ _ pending (subst (λ v. IsPending v pending) (sym c.self.view_is) h)
+    ends_line inside.buffer.now inside.start inside.end inside.limit inside.dropped inside.ended _ _ pending
+    (subst (λ v. IsPending v pending) (sym c.self.view_is) h)
     (subst (λ v. HasNoFeed (waits v)) (sym c.self.view_is) c.requires) c.if-self.false c.if-not-self.false
     (omega (arith, c.if-count-eq0.false)) c.self.invariant.0.within (omega (arith, c.if-count-self.false))

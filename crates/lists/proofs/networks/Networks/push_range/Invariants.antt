@@ -1,4 +1,4 @@
-use Rattle.std.proofs.Common.{◌≡◌, ◌++◌, length}
+use Rattle.lists.proofs.Known.{◌≡◌, ◌++◌, length}
 use Rattle.lists.proofs.networks.Networks.push_range.Given as goal
 
 abbrev pub invariant-loop-block : goal.invariant-loop-block

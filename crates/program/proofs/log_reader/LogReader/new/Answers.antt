@@ -1,5 +1,4 @@
-use Rattle.std.proofs.Common.{refl}
-use Rattle.program.proofs.LogReading.{begins}
+use Rattle.program.proofs.Known.{refl, begins}
 use Rattle.program.proofs.log_reader.LogReader.new.Goals as goal
 
 pub returns-clause-begins : goal.returns-clause-begins

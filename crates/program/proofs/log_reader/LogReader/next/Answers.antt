@@ -1,9 +1,5 @@
-use Rattle.std.proofs.Common.{◌-◌, ◌∙◌, ap, refl, sym, arith, length, true≢false}
-use Rattle.lines.specs.Watched.{has_failed}
-use Rattle.lines.proofs.Writes.{still_works}
-use Rattle.program.specs.LogReaders.{OpenLog}
+use Rattle.program.proofs.Known.{◌-◌, ◌∙◌, ap, refl, sym, arith, length, true≢false, has_failed, still_works, OpenLog, failed_now, by_fields, gives_line, gives_long, gives_end, long_comes, read_breaks, endless_breaks, reads_on, write_breaks, puts_idle, fails_idle, some_pending, less_to_read}
 use Rattle.program.proofs.log_reader.LogReader.next.Invariants.{open_log}
-use Rattle.program.proofs.LogReading.{failed_now, by_fields, gives_line, gives_long, gives_end, long_comes, read_breaks, endless_breaks, reads_on, write_breaks, puts_idle, fails_idle, some_pending, less_to_read}
 use Rattle.program.proofs.log_reader.LogReader.next.Goals as goal
 
 -- ---- a line
@@ -54,10 +50,12 @@ returns-then-is_too_long-clause-gives g c = λ remained first h.
     }
 
 pub returns-then-is_too_long-clause-put : goal.returns-then-is_too_long-clause-put
-returns-then-is_too_long-clause-put g c = puts_idle _ _ _ _ _ _ c.asks.invariant.puts c.in-Ok.ensures.emptied c.in-Ok.ensures.ok
+returns-then-is_too_long-clause-put g c = puts_idle _ _ _ _ _ _ c.asks.invariant.puts c.in-Ok.ensures.emptied
+    c.in-Ok.ensures.ok
 
 pub returns-then-is_too_long-clause-less : goal.returns-then-is_too_long-clause-less
-returns-then-is_too_long-clause-less g c = λ stays. absurd (true≢false (sym c.if-self.true ∙ (c.asks.invariant.hurries ∙ (ap (λ (log : OpenLog). log.hurries) c.self.view_is ∙ stays))))
+returns-then-is_too_long-clause-less g c = λ stays. absurd (true≢false
+    (sym c.if-self.true ∙ (c.asks.invariant.hurries ∙ (ap (λ (log : OpenLog). log.hurries) c.self.view_is ∙ stays))))
 
 pub ask-requires : goal.ask-requires
 ask-requires g c = let some = some_pending c.asks.self-inside.lines in (c.in-Ask.ensures.gives some.0 some.1).2
@@ -81,7 +79,8 @@ returns-then-count-self-clause-breaks g c = λ remained first h.
     let s = c.asks.invariant.hands remained first (by_fields c.self.view_is h) in
     let now = open_log c.next.new.self c.asks.self-inside.room c.asks.self-inside.hurries in
     let given = c.in-Ask.ensures.gives s.pending s.holds in
-    let breaks = endless_breaks _ now remained _ first s refl c.next.ensures.ended c.next.ensures.limit given.1 given.3 _
+    let breaks = endless_breaks _ now remained _ first s refl c.next.ensures.ended c.next.ensures.limit
+    given.1 given.3 _
     c.ask.new.self c.in-Ok-ask.count c.in-Ok-ask.ensures.read c.if-count-self.true in (
       puts_idle _ _ _ _ _ _ c.asks.invariant.puts c.in-Ok.ensures.emptied c.in-Ok.ensures.ok,
       breaks.0,
@@ -96,7 +95,8 @@ asks-smaller g c =
     let new = open_log c.ask.new.self (c.asks.self-inside.room - c.in-Ok-ask.count) c.asks.self-inside.hurries in
     let some = some_pending c.asks.self-inside.lines in
     let going = (c.in-Ask.ensures.gives some.0 some.1).3 in
-    less_to_read (open_log c.asks.self-inside.lines c.asks.self-inside.room c.asks.self-inside.hurries) new c.in-Ok-ask.count refl (sym c.next.ensures.ended ∙ going) c.in-Ok-ask.ensures.ended c.if-count-self.false
+    less_to_read (open_log c.asks.self-inside.lines c.asks.self-inside.room c.asks.self-inside.hurries) new
+    c.in-Ok-ask.count refl (sym c.next.ensures.ended ∙ going) c.in-Ok-ask.ensures.ended c.if-count-self.false
     (c.in-Ok-ask.ensures.size ∙ ap length c.next.ensures.unmoved)
 
 pub asks-preserved : goal.asks-preserved
@@ -105,14 +105,16 @@ asks-preserved g c =
     let new = open_log c.ask.new.self (c.asks.self-inside.room - c.in-Ok-ask.count) c.asks.self-inside.hurries in
     let some = some_pending c.asks.self-inside.lines in
     let going = (c.in-Ask.ensures.gives some.0 some.1).3 in
-    let less = less_to_read (open_log c.asks.self-inside.lines c.asks.self-inside.room c.asks.self-inside.hurries) new c.in-Ok-ask.count refl (sym c.next.ensures.ended ∙ going) c.in-Ok-ask.ensures.ended c.if-count-self.false
+    let less = less_to_read (open_log c.asks.self-inside.lines c.asks.self-inside.room c.asks.self-inside.hurries) new
+    c.in-Ok-ask.count refl (sym c.next.ensures.ended ∙ going) c.in-Ok-ask.ensures.ended c.if-count-self.false
     (c.in-Ok-ask.ensures.size ∙ ap length c.next.ensures.unmoved) in
     record {
       hands = λ remained first h.
           let s = c.asks.invariant.hands remained first h in
           let given = c.in-Ask.ensures.gives s.pending s.holds in
           reads_on _ now remained _ first s refl c.next.ensures.ended c.next.ensures.limit given.1 given.3 _
-          new c.in-Ok-ask.count given.0 c.in-Ok-ask.ensures.read c.in-Ok-ask.ensures.ended c.in-Ok-ask.ensures.limit c.if-count-self.false refl;
+          new c.in-Ok-ask.count given.0 c.in-Ok-ask.ensures.read c.in-Ok-ask.ensures.ended c.in-Ok-ask.ensures.limit
+          c.if-count-self.false refl;
       puts = puts_idle _ _ _ _ _ _ c.asks.invariant.puts c.in-Ok.ensures.emptied c.in-Ok.ensures.ok;
       fewer = omega (arith, less, c.asks.invariant.fewer);
       hurries = c.asks.invariant.hurries;

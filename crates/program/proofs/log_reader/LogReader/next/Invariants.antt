@@ -1,10 +1,4 @@
-use Rattle.std.proofs.Common.{◌≡◌, ◌≤◌, [], ℕ, List, Bool}
-use Rattle.std.specs.Prelude.{Option}
-use Rattle.lines.specs.LineBuffers.{Buffered}
-use Rattle.lines.specs.Outputs.{Prints}
-use Rattle.lines.specs.Watched.{device_of, has_failed}
-use Rattle.program.specs.LogLines.{LogLine}
-use Rattle.program.specs.LogReaders.{OpenLog, HandsFirst, left}
+use Rattle.program.proofs.Known.{◌≡◌, ◌≤◌, [], ℕ, List, Bool, Option, Buffered, Prints, device_of, has_failed, LogLine, OpenLog, HandsFirst, left}
 use Rattle.program.proofs.log_reader.LogReader.next.Given as goal
 
 -- the log by the fields of its reader
@@ -16,7 +10,8 @@ invariant-asks g l =
     let old = open_log l.initial.self-inside.lines l.initial.self-inside.room l.initial.self-inside.hurries in
     let now = open_log l.self-inside.lines l.self-inside.room l.self-inside.hurries in
     record {
-      hands : (remained : Option (List ℕ)) → (first : List LogLine) → HandsFirst old remained (g.R.Read.remaining (device_of l.initial.reader)) first
+      hands : (remained : Option (List ℕ)) → (first : List LogLine)
+          → HandsFirst old remained (g.R.Read.remaining (device_of l.initial.reader)) first
           → HandsFirst now remained (g.R.Read.remaining (device_of l.reader)) first;
       puts : Prints l.initial.output l.output [];
       fewer : left now ≤ left old;

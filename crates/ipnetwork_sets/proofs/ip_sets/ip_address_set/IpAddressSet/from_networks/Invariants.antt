@@ -1,6 +1,4 @@
-use Rattle.std.proofs.Common.{◌≡◌, ◌≤◌, take, vec_capacity}
-use Rattle.std.specs.List.{filter_map}
-use Rattle.ipnetwork_blocks.specs.AggregateIp.{as_v4, as_v6}
+use Rattle.ipnetwork_sets.proofs.Known.{◌≡◌, ◌≤◌, take, vec_capacity, filter_map, as_v4, as_v6}
 use Rattle.ipnetwork_sets.proofs.ip_sets.ip_address_set.IpAddressSet.from_networks.Given as goal
 
 abbrev pub invariant-loop-network : goal.invariant-loop-network

@@ -1,5 +1,4 @@
-use Rattle.std.proofs.Common.{sym}
-use Rattle.ipnetwork_blocks.proofs.Families.{v4_own}
+use Rattle.ipnetwork_sets.proofs.Known.{sym, v4_own}
 use Rattle.ipnetwork_sets.proofs.ip_sets.ip_address_set.IpAddressSet.v4.Goals as goal
 
 pub returns-clause-blocks : goal.returns-clause-blocks

@@ -1,2 +1,0 @@
-# Completion of bash for cidr, which takes no arguments.
-complete -W "" cidr

@@ -1,9 +1,0 @@
-use Rattle.lines.proofs.BytesLemmas.{none_behind}
-use Rattle.cidr.proofs.Cuts.{cut_behind, no_cut}
-use Rattle.cidr.proofs.words.cut_word.Goals as goal
-
-pub returns-in-None : goal.returns-in-None
-returns-in-None c = no_cut _ (none_behind 32 c.args.line.now c.args.from c.in-None.ensures)
-
-pub returns-in-Some : goal.returns-in-Some
-returns-in-Some c = cut_behind c.args.line.now c.args.from c.in-Some.end c.in-Some.ensures

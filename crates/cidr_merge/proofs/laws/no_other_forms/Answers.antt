@@ -1,5 +1,0 @@
-use Rattle.cidr_merge.proofs.Names.{no_other_form}
-use Rattle.cidr_merge.proofs.laws.no_other_forms.Goals as goal
-
-pub returns : goal.returns
-returns c = no_other_form

@@ -1,6 +1,0 @@
-use Rattle.ipnetwork_c.specs.Held.{v4_in, v6_in}
-use Rattle.ipnetwork_c.proofs.Cutting.{find_the_longest}
-use Rattle.ipnetwork_c.proofs.laws.ranges.ranges_find_the_longest.Goals as goal
-
-pub returns : goal.returns
-returns c = record { v4 = find_the_longest 32 v4_in; v6 = find_the_longest 128 v6_in }

@@ -1,0 +1,5 @@
+use Rattle.std.proofs.Common.{refl}
+use Rattle.ipnetwork_law_uses.proofs.networks.v6_network_feeds_all.Goals as goal
+
+pub returns-clause-alike : goal.returns-clause-alike
+returns-clause-alike g c = λ e. c.network_hash.ensures.alike refl e

@@ -1,0 +1,83 @@
+-- The words of this crate and of those below, passed on from one place.
+pub use Rattle.byte_search.specs.Bytes.{IsAbsent, IsNext}
+pub use Rattle.ipnetwork.specs.IpNetworkText.{NamesIpNetwork}
+pub use Rattle.ipnetwork.specs.declared.ip_network.IpNetwork.{IpNetwork}
+pub use Rattle.ipnetwork_addr.specs.Computed.Ipv4Text.{v4_of}
+unfoldable pub use Rattle.ipnetwork_addr.specs.Computed.Ipv6Text.{gap_below, v6_of}
+pub use Rattle.ipnetwork_addr.specs.Either.{NamesIp}
+pub use Rattle.ipnetwork_addr.specs.Ipv4Text.{NamesV4}
+pub use Rattle.ipnetwork_addr.specs.Ipv6Text.{NamesV6}
+pub use Rattle.ipnetwork_addr.specs.Texts.{Colon, Digit, Dot, IsAddressByte, LowerHex, UpperHex}
+pub use Rattle.ipnetwork_addr.specs.declared.ip.IpAddr.{IpAddr}
+pub use Rattle.ipnetwork_addr.specs.declared.ip.IpAddr.TheVariants.{V4, V6}
+pub use Rattle.ipnetwork_blocks.proofs.AggregateUnions.{in_union_push, union_append}
+pub use Rattle.ipnetwork_blocks.proofs.LeastLists.{contains_cons, contains_head, contains_nil, contains_tail}
+pub use Rattle.ipnetwork_blocks.proofs.MaximalBlocks.{range_is_shortest}
+pub use Rattle.ipnetwork_blocks.specs.Aggregate.{InUnion}
+pub use Rattle.ipnetwork_blocks.specs.Ranges.{FromTo}
+pub use Rattle.ipnetwork_family.specs.Ipv4NetworkText.{IsV4Suffix}
+pub use Rattle.ipnetwork_family.specs.Ipv6NetworkText.{IsV6Suffix}
+pub use Rattle.ipnetwork_family.specs.Network.{Member, Network}
+pub use Rattle.ipnetwork_family.specs.NetworkText.{Alone, NamesNetwork, Suffixed, slash}
+pub use Rattle.ipnetwork_family.specs.PrefixNumber.{IsPrefixNumber}
+pub use Rattle.lines.proofs.FirstLines.{are_all, first_still, next_first}
+pub use Rattle.lines.proofs.HandingOut.{has_no}
+unfoldable pub use Rattle.lines.proofs.Lines.{last_line}
+pub use Rattle.lines.proofs.Lines.{first_are_complete, lines-append, lines_complete, lines_from, lines_last, lines_split, pending_from}
+pub use Rattle.lines.proofs.Writes.{still_works}
+pub use Rattle.lines.specs.Faults.{ended_by_read}
+pub use Rattle.lines.specs.LineBuffers.{AreFirst, Buffered, Gives, HasNoFeed, IsFirstLine, IsPending, waits, work}
+pub use Rattle.lines.specs.Beginnings.{IsBeginning, asked, complete_part}
+pub use Rattle.lines.specs.Watched.{device_of, has_failed}
+pub use Rattle.lines.specs.declared.fault.RunFault.{RunFault}
+pub use Rattle.lines.specs.declared.fault.RunFault.TheVariants.{InputTooLong, Read}
+pub use Rattle.lines.specs.declared.line_buffer.NextLine.TheVariants.{Ask, End, Line, TooLong}
+pub use Rattle.lines.specs.declared.line_end.LineEnd.{LineEnd}
+pub use Rattle.lists.specs.Added.{AddsBlocks, AddsEntry}
+pub use Rattle.lists.specs.Bytes.{BytesStop, IsAllOf}
+pub use Rattle.lists.specs.Documents.{IsNoDocument, ReadsDocument, StopsAtDocument, TakesDocument, TakesStrings, strings_of, strings_of_items, strings_of_members}
+pub use Rattle.lists.specs.Encodings.{encoding_of}
+pub use Rattle.lists.specs.Entries.{HasDash, IsEntryCause, IsRange, NamesEntry, ReadsEntry, entry_text, is_dash, told_cause}
+pub use Rattle.lists.specs.KnownLists.{KnownLists, nothing_known}
+pub use Rattle.lists.specs.Laws.{NetworkTextsAreEntries}
+pub use Rattle.lists.specs.Lines.{before_comment, begins_comment, is_blank, trimmed, without_end}
+pub use Rattle.lists.specs.Lists.{Gains, HasAddress, Names, ReadLists, RunsOut, Takes, TakesEntry, TakesLine, TakesLines, TakesReading, at_list, at_next_line, refusing}
+pub use Rattle.lists.specs.Private.Bytes.{ReadsAll, ReadsMore, StopsReading}
+pub use Rattle.lists.specs.Private.Documents.{FailsBytes, TakesBytes, not_read}
+pub use Rattle.lists.specs.Private.Kinds.{ReadsNetworkText, ReadsPlain, ReadsRange}
+pub use Rattle.lists.specs.Private.Readings.{end_of}
+pub use Rattle.lists.specs.Private.Taking.{IsGoodEntry}
+pub use Rattle.lists.specs.Private.Waiting.{HasNoLine, TakesSome, TakesWhole}
+pub use Rattle.lists.specs.Reading.{FailsReading, ReadsFirst, ReadsList, StopsAt}
+pub use Rattle.lists.specs.Refusals.{Refused, with_refusal}
+pub use Rattle.lists.specs.Stopped.{TakesBefore}
+pub use Rattle.lists.specs.declared.bytes.BytesFault.{BytesFault}
+pub use Rattle.lists.specs.declared.encoding.Encoding.{Encoding}
+pub use Rattle.lists.specs.declared.encoding.Encoding.TheVariants.{ByteOrderMark, Gzip, Nul, Utf16}
+pub use Rattle.lists.specs.declared.entry.Entry.{Entry}
+pub use Rattle.lists.specs.declared.entry.Entry.TheVariants.{Range}
+pub use Rattle.lists.specs.declared.entry.EntryFault.{EntryFault}
+pub use Rattle.lists.specs.declared.fault.LineFault.{LineFault}
+pub use Rattle.lists.specs.declared.named.ReadFault.{ReadFault}
+pub use Rattle.lists.specs.declared.named.ReadFault.TheVariants.{Length, NotJson, Open, OutOfMemory}
+pub use Rattle.lists.specs.declared.refusals.Refusal.{Refusal}
+unfoldable pub use Rattle.serde_json.proofs.OnLiterals.{serde_json_on_literals}
+pub use Rattle.serde_json.specs.Data.{Data, array, boolean, item, member, no_items, no_members, null, number, object, string, unsigned}
+pub use Rattle.serde_json.specs.Read.{read}
+pub use Rattle.serde_json.specs.View.{items_view, members_view, view}
+pub use Rattle.serde_json.specs.declared.value.Value.{Value}
+pub use Rattle.std.proofs.Common.{Bool, List, [], ap, append-nil, append_assoc, arith, cond, drop, drop-cons, false, get_or, inl, inr, length, length-append, length-drop, length-take, min, not, refl, subst, suc, sym, take, true, true≢false, zero, ℕ, ⊎_elim, ◌++◌, ◌+◌, ◌-◌, ◌<◌, ◌==◌, ◌^◌, ◌||◌, ◌↔◌, ◌∙◌, ◌∷◌, ◌≡◌, ◌≢◌, ◌≤◌, ◌⊎◌}
+pub use Rattle.std.proofs.KnownBytes.{Consumes-kept, Consumes-trans}
+pub use Rattle.std.proofs.lemmas.Bool.{eq-eqb, ltb-false, ltb-true, ne_eqb}
+pub use Rattle.std.proofs.lemmas.Iterator.Consumers.{YieldsList-end}
+pub use Rattle.std.proofs.lemmas.Iterator.Splits.{YieldsList-from_lines}
+pub use Rattle.std.proofs.lemmas.List.{take_all}
+pub use Rattle.std.proofs.lemmas.List.Sums.{position_or_len_is, suffix_len_is}
+pub use Rattle.std.proofs.lemmas.Option.{none-some}
+pub use Rattle.std.proofs.lemmas.Str.Parse.{digit_from_value}
+unfoldable pub use Rattle.std.specs.Fmt.{digits}
+pub use Rattle.std.specs.Io.KnownBytes.{Consumes, IsAtEnd, Keeps}
+pub use Rattle.std.specs.List.{AllByRecursion, Contains, before_first, position_or_len, prefix_len, range_with_len, suffix_len}
+pub use Rattle.std.specs.Prelude.{Err, IfErr, IfOk, IsTrue, None, Ok, OnOk, Option, Result, Some, bytes_eq, codes, filter, is_err, map, nat_lt}
+pub use Rattle.std.specs.Str.Lines.{lines}
+pub use Rattle.std.specs.Str.Parse.{AllDigits}

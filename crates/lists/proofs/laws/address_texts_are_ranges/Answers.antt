@@ -1,5 +1,0 @@
-use Rattle.lists.proofs.PlainTexts.{address_ranges, v4_texts, v6_texts}
-use Rattle.lists.proofs.laws.address_texts_are_ranges.Goals as goal
-
-pub returns : goal.returns
-returns c = address_ranges (v4_texts c.v4_text_bytes.ensures c.v4_text_is_computed.ensures) (v6_texts c.v6_text_bytes.ensures c.v6_text_is_computed.ensures)
