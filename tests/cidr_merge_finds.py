@@ -96,8 +96,8 @@ def with_many_each(count):
 
 def growth(program, folder):
     """A search takes time in proportion to entries and addresses and to what it prints, not to entries times addresses."""
-    for make, sizes in ((in_one_block, (25000, 50000)), (with_many_each, (2000, 4000))):
-        for size in sizes:
+    for make, least in ((in_one_block, 3125), (with_many_each, 250)):
+        for size in (least, limits.GROWTH * least):
             nets, addresses, each = make(size)
             for name, lines in (("nets", nets), ("addresses", addresses)):
                 with open(os.path.join(folder, f"{name} {size}"), "w") as file:
@@ -105,7 +105,7 @@ def growth(program, folder):
             status, output, error = found(program, folder, size)
             got = (status, output.count(b"\n"), error)
             yield f"find, {make.__name__}, {size}", got, (0 if each else 1, each * size, b"")
-        well, taken = limits.is_proportional(lambda size: found(program, folder, size), sizes)
+        well, taken = limits.is_proportional(lambda size: found(program, folder, size), least)
         yield f"find, {make.__name__}, in proportion: {taken}", well, True
 
 

@@ -19,6 +19,8 @@ import weakref
 START, LIMIT = 0.005, 300
 # After so many programs without an end a test ends too.
 MOST_ENDED = 3
+# How many times as large the larger of two inputs is.
+GROWTH = 16
 # The bytes that a program may write to a file of a test that it would read from and write to for ever.
 FILE = 1 << 20
 
@@ -165,14 +167,15 @@ def processor_seconds(call):
     return result, after.ru_utime + after.ru_stime - before.ru_utime - before.ru_stime
 
 
-def is_proportional(run, sizes):
-    """Whether the processor time of `run(size)` grows in proportion, for sizes of which each is twice the one before: to
-    less than three times. Also the times, each the least of three runs; if they grow more, of up to nine, since what
-    else runs on the machine makes a run slower."""
-    least = [float("inf")] * len(sizes)
+def is_proportional(run, size):
+    """Whether the processor time of a run grows in proportion, from that of `run(size)` to that of sixteen times the size:
+    to less than 64 times, so that neither a machine that is four times as slow meanwhile nor time that grows with the square,
+    256 times, is taken for the other. Also the two times, each the least of three runs; if they grow more, of up to nine,
+    since what else runs on the machine makes a run slower."""
+    least = [float("inf")] * 2
     for number in range(9):
-        least = [min(had, processor_seconds(lambda: run(size))[1]) for had, size in zip(least, sizes)]
-        well = all(more < 3 * less for less, more in zip(least, least[1:]))
+        least = [min(had, processor_seconds(lambda: run(of))[1]) for had, of in zip(least, (size, GROWTH * size))]
+        well = least[1] < GROWTH**1.5 * least[0]
         if well and number >= 2:
             break
     return well, [round(taken, 4) for taken in least]
