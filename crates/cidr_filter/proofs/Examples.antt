@@ -51,10 +51,14 @@ printed_with_an_end = refl
 
 -- ---- the verdict on a line
 
+-- the first field, cut at a blank
+abbrev pub first_field : Area
+first_field = whole (parts.Field (places.Number 1) 32)
+
 abbrev pub by : Bool → WithoutAddress → Filter
 by inverts bad = record {
   listed = Addresses (record { v4 = []; v6 = [] });
-  area = whole (parts.Field (places.Number 1) 32);
+  area = first_field;
   mapped = false;
   family =
       families.Either;
@@ -104,8 +108,10 @@ unfolding address_of digits v6_of gap_below
 address_in_another_field = (omega arith, refl)
 
 -- the second word, after two blanks
-pub address_in_a_word : asked_in (looking (whole (parts.Word (places.Number 2))) false) (codes "a  10.0.0.1 b") ≡ addresses.V4
-    0x0a000001 ∷ []
+abbrev pub second_word : Area
+second_word = whole (parts.Word (places.Number 2))
+
+pub address_in_a_word : asked_in (looking second_word false) (codes "a  10.0.0.1 b") ≡ addresses.V4 0x0a000001 ∷ []
 unfolding address_of digits v6_of gap_below
 address_in_a_word = refl
 
@@ -124,13 +130,11 @@ pub no_text : asked_in (looking (after (codes "SRC=")) false) (codes "DST=10.0.0
 no_text = refl
 
 -- an IPv4-mapped address counts as its IPv4 address only with `--mapped`
-pub mapped_address : asked_in (looking (whole (parts.Field (places.Number 1) 32)) true) (codes "::ffff:10.0.0.1 x") ≡ addresses.V4
-    0x0a000001 ∷ []
+pub mapped_address : asked_in (looking first_field true) (codes "::ffff:10.0.0.1 x") ≡ addresses.V4 0x0a000001 ∷ []
 unfolding address_of digits v6_of gap_below
 mapped_address = refl
 
-pub address_as_it_is : asked_in (looking (whole (parts.Field (places.Number 1) 32)) false) (codes "::ffff:10.0.0.1 x") ≡ addresses.V6
-    0xffff0a000001 ∷ []
+pub address_as_it_is : asked_in (looking first_field false) (codes "::ffff:10.0.0.1 x") ≡ addresses.V6 0xffff0a000001 ∷ []
 unfolding address_of digits v6_of gap_below
 address_as_it_is = refl
 

@@ -1,5 +1,5 @@
 -- How a run ends that prints findings.
-use Rattle.cidr_merge.proofs.Words.{◌≡◌, ◌||◌, ◌∙◌, ℕ, Bool, true, false, not, List, [], ◌∷◌, ◌++◌, refl, sym, ap, subst, inl, inr, length, if◌then◌else◌, Option, Result, Ok, Err, OnOk, IsFalse, is_err, concat, Appends, Appends-trans, eqb-suc-zero, Written, Puts, RunFault, status_of, Reports, IsFound, findings_status, EndsTelling}
+use Rattle.cidr_merge.proofs.Words.{◌≡◌, ◌||◌, ◌∙◌, ℕ, Bool, true, false, not, List, [], ◌∷◌, ◌++◌, refl, sym, ap, subst, inl, inr, length, if◌then◌else◌, Option, Result, Ok, Err, OnOk, IsFalse, is_err, concat, Appends, Appends-trans, eqb-suc-zero, Written, Puts, RunFault, status_of, Reports, IsFound, findings_status, EndsWriting, AppendsBeginning, FailsIn, OnErr, IsTrue, begins_written}
 
 pub status_is : (findings : List (List ℕ)) (found : Bool) → IsFound findings found
     → (if found then 1 else 0) ≡ findings_status findings
@@ -24,14 +24,29 @@ written_all held mid holds waited waits text p h =
     subst (λ (t : List ℕ). Appends held holds t) (sym p.2)
     (Appends-trans held mid holds p.0 waits p.1 h)
 
--- the findings were written, or the writer failed
+-- the writer failed while the text was told, or after that
+begins_told : {W : Type 0} (old mid new : Written W) (text : List ℕ) → Reports old mid text
+    → AppendsBeginning mid.holds new.holds mid.waits → (IsTrue mid.failed → new ≡ mid) → (failed : Bool)
+    → mid.failed ≡ failed → FailsIn old new text
+begins_told {W = W} old mid new text tells begins stays true e =
+    subst (λ (w : Written W). FailsIn old w text) (sym (stays e)) (tells.cut e)
+begins_told old mid new text tells begins stays false e = begins_written old mid new text (tells.told e) begins
+
+-- the findings were written, or the writer failed and took a beginning of them
 pub all_written : {W T : Type 0} (findings : List (List ℕ)) (old mid new : Written W) (written : Result T RunFault)
     (status wanted result : ℕ) → Reports old mid (concat findings) → status ≡ wanted
     → OnOk written (Appends mid.holds new.holds mid.waits)
-    → OnOk written (IsFalse new.failed) → new.failed ≡ (mid.failed || is_err written)
-    → result ≡ status_of written status → EndsTelling old new result (concat findings) wanted
-all_written findings old mid new (Ok done) status wanted result tells s wrote works failed is =
+    → OnErr written (AppendsBeginning mid.holds new.holds mid.waits) → OnOk written (IsFalse new.failed)
+    → new.failed ≡ (mid.failed || is_err written) → (IsTrue mid.failed → new ≡ mid)
+    → result ≡ status_of written status → EndsWriting old new result (concat findings) wanted
+all_written findings old mid new (Ok done) status wanted result tells s wrote begins works failed
+    stays is =
     let prints = tells.told (works_before mid.failed new.failed failed works) in
     inl (written_all old.holds mid.holds new.holds old.waits mid.waits (concat findings) prints wrote, is ∙ s)
-all_written findings old mid new (Err fault) status wanted result tells s wrote works failed is =
-    inr (fails_now mid.failed new.failed failed, is)
+all_written findings old mid new (Err fault) status wanted result tells s wrote begins works failed
+    stays is =
+    inr (
+      fails_now mid.failed new.failed failed,
+      begins_told old mid new (concat findings) tells begins stays mid.failed refl,
+      is,
+    )

@@ -1,5 +1,5 @@
 -- Texts that are put, one after the other, and then written.
-use Rattle.cidr_merge.proofs.Words.{◌≡◌, ◌||◌, ◌∙◌, ℕ, List, [], ◌++◌, Bool, false, ap, refl, sym, subst, append-nil, inl, inr, true, Result, Ok, Err, OnOk, OnErr, is_err, Appends, begins_after_puts, puts_more, AppendsBeginning, FailsIn, Prints, Written, fails_first, puts_two, status_of, PutsOrFails, count_line, sign_of, AreBoth, AreCountLines, AreCountsLeft, AreCounts, IsCount, PutsSome, WritesOrFails, EndsWriting, Operation, Union, Common, Minus, Differ, Sets, First, Second}
+use Rattle.cidr_merge.proofs.Words.{◌≡◌, ◌||◌, ◌∙◌, ℕ, List, [], ◌++◌, Bool, false, ap, refl, sym, subst, append-nil, inl, inr, true, Result, Ok, Err, OnOk, OnErr, is_err, Appends, begins_written, puts_more, AppendsBeginning, FailsIn, Prints, Written, fails_first, puts_two, status_of, PutsOrFails, count_line, sign_of, AreBoth, AreCountLines, AreCountsLeft, AreCounts, IsCount, PutsSome, WritesOrFails, EndsWriting, Operation, Union, Common, Minus, Differ, Sets, First, Second}
 use Rattle.std.proofs.Common.{codes, true≢false}
 use Rattle.std.specs.Prelude.{◌≢◌}
 use Rattle.cidr_merge.proofs.Inspected.{fails_now, written_all}
@@ -65,9 +65,7 @@ module _ {W T E : Type 0} where
   finished (Err e) old mid new text prints wrote begins failed = record {
     written = tt;
     failed = fails_now mid.failed new.failed failed;
-    beginning = subst (λ (t : List ℕ). AppendsBeginning old.holds new.holds (old.waits ++ t)) (append-nil text)
-        (begins_after_puts old.holds mid.holds new.holds old.waits mid.waits text [] prints
-        (subst (λ (t : List ℕ). AppendsBeginning mid.holds new.holds t) (sym (append-nil mid.waits)) begins));
+    beginning = begins_written old mid new text prints begins;
   }
 
   -- it was not put

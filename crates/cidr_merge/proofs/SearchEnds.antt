@@ -1,5 +1,5 @@
 -- How a run ends that searches lists.
-use Rattle.cidr_merge.proofs.Words.{◌≡◌, ◌==◌, ◌||◌, ◌∙◌, ◌++◌, ℕ, Bool, true, false, not, List, ap, refl, ◌+◌, ◌≤◌, arith, subst, inr, length, length-take, map, take, drop, drop-map, length-drop, take-map, if◌then◌else◌, Result, OnOk, IsFalse, is_err, String, Appends, Written, RunFault, IpAddr, KnownLists, status_of, has_refused, lists_matches, EndsSearching, EndsReadingAll, with_addresses, TellsFound, has_other, lists_sought, AreTexts}
+use Rattle.cidr_merge.proofs.Words.{◌≡◌, ◌==◌, ◌||◌, ◌∙◌, ◌++◌, ℕ, Bool, true, false, not, List, ap, refl, ◌+◌, ◌≤◌, arith, subst, inr, length, length-take, map, take, drop, drop-map, length-drop, take-map, if◌then◌else◌, Result, OnOk, OnErr, IsTrue, IsFalse, AppendsBeginning, is_err, String, Appends, Written, RunFault, IpAddr, KnownLists, status_of, has_refused, lists_matches, EndsSearching, EndsReadingAll, with_addresses, TellsFound, has_other, lists_sought, AreTexts}
 use Rattle.cidr_merge.proofs.Inspected.{all_written}
 use Rattle.cidr_merge.proofs.WholeLists.{as_many_held}
 
@@ -12,15 +12,16 @@ pub search_ended : {Z W T : Type 0} (sought : List (List ℕ × IpAddr)) (others
     (texts : List (List ℕ)) (old mid new : Written W) (written : Result T RunFault) (is_printed is_told : Bool)
     (status result : ℕ) → TellsFound (lists_matches sought names texts) old mid is_printed
     → is_told ≡ (others || has_refused texts) → status ≡ (if is_told then 2 else (if is_printed then 0 else 1))
-    → OnOk written (Appends mid.holds new.holds mid.waits) → OnOk written (IsFalse new.failed)
-    → new.failed ≡ (mid.failed || is_err written) → result ≡ status_of written status
+    → OnOk written (Appends mid.holds new.holds mid.waits)
+    → OnErr written (AppendsBeginning mid.holds new.holds mid.waits) → OnOk written (IsFalse new.failed)
+    → new.failed ≡ (mid.failed || is_err written) → (IsTrue mid.failed → new ≡ mid) → result ≡ status_of written status
     → EndsSearching sought others names texts old new result
 search_ended sought others names texts old mid new written is_printed is_told status result h k s wrote
-    works failed is =
+    begins works failed stays is =
     let none = length (lists_matches sought names texts) == 0 in
     all_written (lists_matches sought names texts) old mid new written status _ result h.0
     (s ∙ status_by is_told none is_printed h.1 ∙ ap (λ (b : Bool). if b then 2 else (if none then 1 else 0)) k)
-    wrote works failed is
+    wrote begins works failed stays is
 
 -- ---- what the words say
 

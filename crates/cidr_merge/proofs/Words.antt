@@ -35,7 +35,7 @@ pub use Rattle.cidr_merge.specs.Spelling.{spelled_out}
 pub use Rattle.cidr_merge.specs.Stopping.{Stops, StopsInSides}
 pub use Rattle.cidr_merge.specs.Tasks.{task_called}
 pub use Rattle.cidr_merge.specs.Texts.{AreTexts, FileStops, IsText, StopsAs, TextStops, TextsStop}
-pub use Rattle.cidr_merge.specs.Writing.{EndsTelling, EndsWriting}
+pub use Rattle.cidr_merge.specs.Writing.{EndsWriting}
 pub use Rattle.cidr_merge.specs.declared.command_line.Command.{Command}
 pub use Rattle.cidr_merge.specs.declared.command_line.Form.TheVariants.{Blocks, Counts, Exported, Ranges}
 pub use Rattle.cidr_merge.specs.declared.command_line.Operation.{Operation}
@@ -81,7 +81,7 @@ pub use Rattle.ipnetwork_sets.specs.declared.address_count.AddressCount.{Address
 pub use Rattle.lines.proofs.BytesLemmas.{IsFirst, first_behind, none_behind, split_text}
 unfoldable pub use Rattle.lines.proofs.Lines.{last_line}
 pub use Rattle.lines.proofs.Lines.{lines_last, lines_line}
-pub use Rattle.lines.proofs.Putting.{begins_after_puts, puts_more, puts_nothing}
+pub use Rattle.lines.proofs.Putting.{puts_more, puts_nothing}
 pub use Rattle.lines.specs.Outputs.{AppendsBeginning, FailsIn, Prints, Puts, Written}
 pub use Rattle.lines.specs.declared.fault.RunFault.{RunFault}
 pub use Rattle.lists.proofs.Printed.{map_contains}
@@ -104,7 +104,7 @@ pub use Rattle.options.specs.Items.{free_items}
 pub use Rattle.options.specs.declared.items.Item.{Item}
 pub use Rattle.options.specs.declared.table.Row.{Row}
 pub use Rattle.options.specs.declared.table.Table.{Table}
-pub use Rattle.program.proofs.Puts.{fails_first, puts_it, puts_none, puts_two, works_still}
+pub use Rattle.program.proofs.Puts.{begins_written, fails_first, puts_it, puts_none, puts_two, works_still}
 pub use Rattle.program.proofs.Reported.{tells_more, tells_nothing, tells_on, tells_same}
 pub use Rattle.program.proofs.Runs.{not_asked, printed}
 pub use Rattle.program.specs.Endings.{Ending, ending, status_of}

@@ -9,7 +9,7 @@ use Rattle.cidr_merge.specs.Finds.{has_refused, lists_matches}
 use Rattle.cidr_merge.specs.FindWords.{AreAddresses, StopsAtWord, with_addresses}
 use Rattle.cidr_merge.specs.SoughtLines.{has_other, lists_sought}
 use Rattle.cidr_merge.specs.Texts.{AreTexts, TextsStop}
-use Rattle.cidr_merge.specs.Writing.{EndsSilently, EndsTelling}
+use Rattle.cidr_merge.specs.Writing.{EndsSilently, EndsWriting}
 use Rattle.cidr_merge.specs.declared.query.QueryFault.{QueryFault}
 
 -- the exit status, from the lines that are printed and whether a line was refused: 2 if one was, else 0 if a line is
@@ -22,7 +22,7 @@ search_status printed refused = if refused then 2 else (if length printed == 0 t
 abbrev pub EndsSearching : {Z W : Type 0} → List (List ℕ × IpAddr) → Bool → List (String Z) → List (List ℕ) → Written W
     → Written W → ℕ → Type 0
 EndsSearching sought others names texts old new status =
-    EndsTelling old new status (concat (lists_matches sought names texts))
+    EndsWriting old new status (concat (lists_matches sought names texts))
     (search_status (lists_matches sought names texts) (others || has_refused texts))
 
 -- all lists were read: the addresses in the first `from` lists are searched for too, in the other lists

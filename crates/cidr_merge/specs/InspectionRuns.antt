@@ -9,7 +9,7 @@ use Rattle.cidr_merge.specs.Findings.{lists_findings}
 use Rattle.cidr_merge.specs.Overlaps.{OrderedFindings}
 use Rattle.cidr_merge.specs.Repetitions.{found_among}
 use Rattle.cidr_merge.specs.Texts.{AreTexts, TextsStop}
-use Rattle.cidr_merge.specs.Writing.{EndsSilently, EndsTelling}
+use Rattle.cidr_merge.specs.Writing.{EndsSilently, EndsWriting}
 use Rattle.cidr_merge.specs.declared.command_line.Inspection.{Inspection}
 use Rattle.cidr_merge.specs.declared.command_line.Inspection.TheVariants.{Check, Strict, Overlaps}
 
@@ -17,9 +17,9 @@ use Rattle.cidr_merge.specs.declared.command_line.Inspection.TheVariants.{Check,
 abbrev pub findings_status : List (List ℕ) → ℕ
 findings_status findings = if length findings == 0 then 0 else 1
 
--- the findings were written, or the writer failed
+-- the findings were written, or the writer failed and took a beginning of them
 abbrev pub TellsAll : {W : Type 0} → List (List ℕ) → Written W → Written W → ℕ → Type 0
-TellsAll findings old new status = EndsTelling old new status (concat findings) (findings_status findings)
+TellsAll findings old new status = EndsWriting old new status (concat findings) (findings_status findings)
 
 -- the findings for the lines of lists of these names and bytes were written
 abbrev pub EndsChecking : {Z W : Type 0} → List (String Z) → List (List ℕ) → Written W → Written W → ℕ → Type 0

@@ -11,8 +11,3 @@ EndsSilently old new status = (new ≡ old) × (status ≡ 2)
 abbrev pub EndsWriting : {W : Type 0} → Written W → Written W → ℕ → List ℕ → ℕ → Type 0
 EndsWriting old new status text wanted = (Writes old new text × (status ≡ wanted))
     ⊎ ((new.failed ≡ true) × FailsIn old new text × (status ≡ 2))
-
--- the same, but of a writer that failed is not said what it took
-abbrev pub EndsTelling : {W : Type 0} → Written W → Written W → ℕ → List ℕ → ℕ → Type 0
-EndsTelling old new status text wanted = (Writes old new text × (status ≡ wanted))
-    ⊎ ((new.failed ≡ true) × (status ≡ 2))

@@ -171,7 +171,8 @@ either_aggregate old parted v4 v6 moved k a b p size of_v4 of_v6 e =
     let moved_is : moved ≡ paste d a (drop k d) b = e ∙ ap (paste d a (drop k d)) count in
     let front : take (a + b) moved ≡ take a v4 ++ take b v6 =
     ap (take (a + b)) moved_is ∙ take-paste d a (drop k d) b (omega (arith, size_d)) fits
-    ∙ ap (λ l. take a d ++ take b l) behind ∙ ap (λ l. l ++ take b v6) (take-append-le a v4 v6 (omega (arith, size))) in (
+    ∙ ap (λ l. take a d ++ take b l) behind
+    ∙ ap (λ l. l ++ take b v6) (take-append-le a v4 v6 (omega (arith, size))) in (
       map the_network (take a v4),
       map the_network (take b v6),
       front ∙ ap (λ l. l ++ take b v6) (known the_network V4 IsV4 v4_known (take a v4) (All-take IsV4 a v4 of_v4.left))

@@ -1,6 +1,6 @@
 -- The words and the lemmas that answers cite, passed on from one place.
-unfoldable pub use Rattle.ipnetwork_blocks.proofs.Words.{blocks_within, count_up}
-pub use Rattle.ipnetwork_blocks.proofs.Words.{AggregateBlocksAreNeeded, AggregateHasNetworks, AggregateHasOneBlock, AggregateHasUnion, AggregateIsApart, AggregateIsLeast, All, All-contains, All-permutation, All-push, All-set, All-take, AllPairs, AllPairs-cons, AllWithin, AllWithin-more_set, AreEnds, AreHalves, AreInOrder, AreIpv4Hosts, AreIpv6Hosts, AreJoined, AsksItsFamily, Before, Behind, Bool, Contains, Contains-append_cases, Contains-append_left, Contains-append_right, Contains-get_or, Contains-permutation, Contains-push, Contains-push_cases, EndsInZeros, Equal, Follows, FromTo, Greater, HostBitsAreZero, InDifference, InIpUnion, InUnion, IpAddr, IpAggregateHasNetworks, IpMember, IpNetwork, IpSubnet, IsAggregate, IsAround, IsCidrBlock, IsIpAggregate, IsIpNetwork, IsLeastList, IsMaximalIn, IsNetwork, IsNetworkAtMost, IsPermutation, IsPermutation-map, IsPermutation-sym, IsPermutation-trans, IsRun, IsShortest, IsSibling, IsSorted, IsSpanning, IsTrue, IsV4, IsV6, Less, LiesIn, LiesInIpUnion, LiesInLast, LiesInUnion, List, MakesProgress, MatchOption, MatchOrdering, Member, Network, NetworkSize, None, Option, Ordering, Overlap, RangeIsShortest, SameUnion, SharesBits, Some, Subnet, SwappedAt, UnionOfList, UnionOfNone, V4, V6, [], add-mul-div_left, all_pairs_push, and_parts, ap, append-nil, append_cancel_right, arith, as_v4, as_v6, block_at, block_at_holds, block_at_network, block_at_subnet, block_begins, block_fits_too, block_number, block_of, block_same_set, block_size, blocks_from_to, blocks_left, cases_eq, cases_lt, cases_order, coarser_size, cond, cons_option, copy_within, count_up-more, count_up-next, count_up-none, count_up-one, div-lt_iff_lt-mul, div-mul-le_self, div_within, drop, drop-append_seam, drop_all, eq-eqb, eq_by_cmp, eqb-true, false, filter_map, filter_map-append, following_block, get_or, get_or-map, get_or-remove_above, get_or-remove_below, get_or-set_other, get_or-set_same, get_or-take, get_or_default, has_all, has_ends, high, high_fits, iff_false, inl, inr, is_eq, is_le, is_lt, is_some_and, item_count, le-leb, leb, leb-true, length, length-append, length-map, length-remove, length-set, length-take, length-take-le, list_falls, low, lt-div-mul-add, map, map-set, map_over_more, mask_of, max, member_within, members, min, mod-eq-sub-div-mul, mul-le, multiple_begins, nat_cmp, nat_eq, nested, network_cmp, not, option_map, ordering_then, parent, partial_le, partial_lt, paste, pow-add, pow_below, pow_mono, pow_pos, preceding_block, ranked, refl, remove, same_block, set, shares_address, size_divides, size_pos, subnet_from, subnet_number, subnet_prefix, subnets_of, subst, suc, sym, take, take-append-drop, take-append-le, take-length, take-map, take-paste, take-suc, take-take, take_all, take_more, take_more_set, the_network, true, true≢false, unsigned_tied, within_block, within_member, zero, ℕ, ⊎_elim, ◌%◌, ◌&&◌, ◌*◌, ◌++◌, ◌+◌, ◌-◌, ◌/◌, ◌<◌, ◌==◌, ◌^◌, ◌↔◌, ◌∙◌, ◌∷◌, ◌≡◌, ◌≢◌, ◌≤◌, ◌⊎◌}
+
+pub use Rattle.ipnetwork_blocks.proofs.Words.{All, All-permutation, All-set, AllWithin, AreHalves, AreJoined, Contains, FromTo, HostBitsAreZero, InDifference, IpNetwork, IsAggregate, IsCidrBlock, IsLeastList, IsMaximalIn, IsNetwork, IsPermutation, IsPermutation-map, IsPermutation-trans, IsRun, IsSpanning, IsV4, IsV6, LiesInLast, List, Network, SameUnion, SharesBits, [], ap, arith, block_at, block_begins, block_fits_too, block_of, block_size, get_or, get_or_default, high, iff_false, le-leb, length, length-map, length-take-le, list_falls, low, map, map-set, mask_of, max, min, set, subst, sym, take, take-map, the_network, ℕ, ◌*◌, ◌++◌, ◌+◌, ◌-◌, ◌<◌, ◌^◌, ◌∙◌, ◌∷◌, ◌≡◌, ◌≢◌, ◌≤◌}
 pub use Rattle.ipnetwork_blocks.proofs.Addresses.{differ, differ_not, empty_mask, full_mask, less, not_less, other_network, same_network}
 pub use Rattle.ipnetwork_blocks.proofs.AggregateClearing.{IsClearing, aggregate_of_sorted, cleared, clearing_more, clearing_starts}
 pub use Rattle.ipnetwork_blocks.proofs.AggregateFront.{IsJoining, joining_more, joining_starts, joining_stops}

@@ -1,6 +1,6 @@
 -- The words and the lemmas that answers cite, passed on from one place.
-unfoldable pub use Rattle.ipnetwork_sets.proofs.Words.{all_from, blocks_within, common_blocks, digits, either_blocks, in_union, is_from, least_blocks, least_within, left_blocks, put_in_front, runs}
-pub use Rattle.ipnetwork_sets.proofs.Words.{AddedHas, AddressCount, AddsFirstOfLeastList, AddsLeastList, AggregateHasNetworks, AggregateHasOneBlock, AggregateHasUnion, AggregateIsApart, All, All-append, All-cons, All-contains, All-drop, All-rest, AllOfIpv6, AllPairs, AllPairs-cons, AllPairs-from_increasing, Any-from_list_any, AreBlocksOf, AreDisjoint, AreHalves, AreIpDisjoint, AreJoined, Begins, Bool, ChangesTo, CommonPartAddsUp, CommonPartIsShortest, Contains, Contains-append_cases, Contains-append_left, Contains-append_right, Contains-get_or, DifferenceAddsUp, DifferenceIsShortest, EndsAt, Err, FitsNumber, Follows, FreePartIsShortest, FromTo, HasCount, HasNoPart, HasRoom, HasTooLittleRoom, HasWritten, HasWrittenStyled, HoldSet, HostBitsAreZero, IfOk, IfOk-weaker, InBoth, InComplement, InDifference, InEither, InFirstAlone, InIpBoth, InIpComplement, InIpEither, InIpFirstAlone, InIpUnion, InLeft, InNetworkAlone, InRanges, InUnion, IpAddr, IpMember, IpNetwork, IsAddressSet, IsAggregate, IsAtHand, IsBefore, IsCidrBlock, IsErr, IsFamily, IsFirst, IsFirstFree, IsFlush, IsFreeBlock, IsFreeRange, IsFrom, IsGrowing, IsIpAddressSet, IsIpAggregate, IsIpLeastList, IsIpWithin, IsLastUpTo, IsLater, IsLeastList, IsMaximalIn, IsNetwork, IsNextPart, IsNonDecreasingBy, IsOk, IsPartitionPoint, IsPartitionPoint-from_clause, IsPartitionedBy-leb, IsPlace, IsPlainFormatter, IsRangeList, IsRun, IsShortest, IsSplitAt, IsTrue, IsWithin, JoinsBefore, JoinsBehind, LiesIn, LiesInIpUnion, LiesInUnion, List, MakesProgress, MatchOption, MeetsIpUnion, MeetsUnion, Member, Network, NetworkSizeError, NoBlockIsFree, NoHalfBefore, NoHalfBehind, None, NoneUpTo, Number, Ok, OnErr, OnOk, Option, Overlap, PartOf, RangeIsShortest, Result, SameUnion, SetAddsUp, SetHasFewerBlocks, Skips, Some, Subnet, TakenHas, TakesPart, Touches, UnionIsShortest, V4, V6, [], after_all, alike, and_parts, ap, append-nil, append_assoc, arith, as_v4, as_v6, at_hand, at_most, block_at, block_at_holds, block_at_network, block_at_subnet, block_begins, block_fits_too, block_from, block_of, block_same_set, block_size, capped, cases_eq, cases_lt, cases_order, cond, cond_by, contains_cons, contains_head, contains_nil, contains_tail, count_at_hand, count_number, decimal, div_within, drop, drop-map, drop-set-lt, drop_more, eq-eqb, false, filter_map, filter_map-append, flat_map, flat_map_more, get_or, get_or-drop, get_or-map, get_or-take, get_or_default, halves_join, has_ends, has_written_append, has_written_of_eq, has_written_styled_append, has_written_styled_of_eq, high, high_fits, iff_false, in_family, in_union_push, inl, inr, is_eq, is_member, is_shortest, is_some, item_count, joined_is_aggregate, joined_push, joined_take, le-leb, least_from_after, least_from_to, least_of_halves, least_of_none, least_of_one, least_of_same, least_of_two, least_unique, leb, leb-false, leb-true, length, length-append, length-count_up, length-drop, length-map, length-set, length-take, length-take-le, less, lies_in_family, lines_of, list_any-from_Any, lists_members, low, lower_begins, lt-leb, map, map-append, map-id, member_or_not, member_within, members, membership_computed, min, min-eq_left, min-eq_right, min-le_right, nat_le, ne_eqb, nested, no_part, not, not_at_most, not_less, nothing_between, of_calls, on_err_weaker, on_ok_weaker, option_map, own_address, pairs_append, pairs_head, pairs_tail, parent, parent_made, pointwise, pow_mono, read_held, refl, rules, runs_left, same_blocks, same_ip_blocks, same_network, set, set_split, shares_address, size_pos, subnet_from, subnet_prefix, subst, suc, sym, take, take-append-drop, take-append-le, take-map, take-suc, take_all, take_at, take_more, take_more_set, text_of, through, total, true, true≢false, union_of_list, union_of_none, upper_begins, v4_family, v4_of_both, v4_own, v4_then_v6, v6_family, v6_of_both, v6_own, vec_capacity, whole_part, within_member, zero, ℕ, ⊎_elim, ◌&&◌, ◌*◌, ◌++◌, ◌+◌, ◌-◌, ◌/◌, ◌<◌, ◌^◌, ◌||◌, ◌↔◌, ◌∙◌, ◌∷◌, ◌≡◌, ◌≤◌, ◌⊎◌}
+unfoldable pub use Rattle.ipnetwork_sets.proofs.Words.{common_blocks, digits, either_blocks, left_blocks}
+pub use Rattle.ipnetwork_sets.proofs.Words.{AddressCount, AddsFirstOfLeastList, All, All-rest, AreDisjoint, AreJoined, Err, Follows, FromTo, HasCount, HasTooLittleRoom, HasWritten, HasWrittenStyled, HoldSet, IfOk, InEither, InIpEither, InIpUnion, InUnion, IpNetwork, IsAddressSet, IsAtHand, IsCidrBlock, IsErr, IsFlush, IsGrowing, IsIpAddressSet, IsLater, IsLeastList, IsOk, IsPartitionPoint-from_clause, IsPartitionedBy-leb, IsPlace, IsPlainFormatter, IsSplitAt, IsTrue, IsWithin, LiesInUnion, List, MeetsUnion, Member, Network, Ok, OnErr, Option, Result, Skips, Some, [], alike, ap, arith, as_v4, as_v6, at_hand, at_most, block_same_set, capped, contains_head, count_at_hand, count_number, decimal, drop, filter_map, get_or_default, has_ends, has_written_append, has_written_of_eq, has_written_styled_append, has_written_styled_of_eq, high, iff_false, inl, inr, is_eq, least_unique, length, length-map, less, lies_in_family, lines_of, low, map, map-id, nat_le, not_at_most, not_less, of_calls, option_map, own_address, parent_made, read_held, refl, rules, same_blocks, subst, suc, sym, take, take_all, take_more, text_of, through, total, true≢false, v4_family, v4_own, v6_family, v6_own, vec_capacity, ℕ, ◌++◌, ◌+◌, ◌-◌, ◌<◌, ◌↔◌, ◌∙◌, ◌∷◌, ◌≡◌, ◌≤◌}
 pub use Rattle.ipnetwork_sets.proofs.ChangeLaws.{added_has, taken_has}
 pub use Rattle.ipnetwork_sets.proofs.Changed.{IsLeft, added_is_set, grew_by_more, grew_by_one, left_is_set, left_written, nothing_added, nothing_taken}
 pub use Rattle.ipnetwork_sets.proofs.Checked.{check_goes_on, checked, set_follows, set_has_block}

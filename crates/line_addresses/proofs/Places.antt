@@ -8,8 +8,8 @@ are_four a b c d p q r s = rw (p, q, r, s)
 pub number_in_decimal : number_of (codes "4294967295") ≡ 4294967295
 number_in_decimal = refl
 
-pub ordinals : map ordinal_in (codes "4294967295" ∷ codes "4294967296" ∷ codes "01" ∷ codes "0" ∷ codes "+1" ∷ []) ≡ Some
-    4294967295 ∷ None ∷ Some 1 ∷ None ∷ None ∷ []
+pub ordinals : map ordinal_in (map codes ("4294967295" ∷ "4294967296" ∷ "01" ∷ "0" ∷ "+1" ∷ []))
+    ≡ Some 4294967295 ∷ None ∷ Some 1 ∷ None ∷ None ∷ []
 ordinals = refl
 
 -- every other number in digits is one of these

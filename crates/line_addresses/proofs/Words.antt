@@ -19,7 +19,7 @@ pub use Rattle.line_addresses.specs.Found.{IsNextOf, StopsARun, spelled_at}
 pub use Rattle.line_addresses.specs.LineRuns.{is_run_byte}
 unfoldable pub use Rattle.line_addresses.specs.Networks.{named_network, network_in}
 pub use Rattle.line_addresses.specs.Networks.{address_read, found_of, has_slash, is_slash, is_stretch_byte, network_before_mark, networks_in, networks_of, or_addresses, spelled_network}
-pub use Rattle.line_addresses.specs.Numbers.{is_ordinal, number_of, ordinal_in}
+pub use Rattle.line_addresses.specs.Numbers.{number_of, ordinal_in}
 pub use Rattle.line_addresses.specs.Places.{at_place, place_in, place_text}
 pub use Rattle.line_addresses.specs.Private.LastParts.{cuts, is_skipped, parts_of}
 pub use Rattle.line_addresses.specs.Private.LineRuns.{IsPartEnd, IsRunEnd, IsStretchEnd, IsWordEnd, Shows}
@@ -29,13 +29,12 @@ pub use Rattle.line_addresses.specs.declared.area.Part.{Part}
 pub use Rattle.line_addresses.specs.declared.area.Pick.{Pick}
 pub use Rattle.line_addresses.specs.declared.byte_kind.TheConstants.{KINDS}
 pub use Rattle.line_addresses.specs.declared.found.Found.{Found}
-pub use Rattle.line_addresses.specs.declared.place.Place.{Place}
 pub use Rattle.lines.proofs.BytesLemmas.{first_behind, none_behind, split_at, split_none, split_text}
 pub use Rattle.std.proofs.Common.{Bool, List, None, Option, Some, [], ap, append_assoc, arith, cond, drop, false, get_or, inl, inr, length, length-drop, length-take, min, not, refl, subst, suc, sym, take, true, true≢false, zero, ℕ, ◌&&◌, ◌++◌, ◌+◌, ◌-◌, ◌<◌, ◌==◌, ◌^◌, ◌↔◌, ◌∙◌, ◌∷◌, ◌≡◌, ◌≢◌, ◌≤◌, ◌⊎◌}
 pub use Rattle.std.proofs.Math.Seq.{take-length}
 pub use Rattle.std.proofs.lemmas.Bool.{agree_below_at, cases_lt, eq-eqb, eqb-true, ne_eqb}
 pub use Rattle.std.proofs.lemmas.Bool.Decides.{nat_tests}
-pub use Rattle.std.proofs.lemmas.List.{append-nil, reverse-append, take-append-drop, take_all, drop-drop, drop-take, drop_all, drop_more, get_or-drop, get_or-take, take-take, take_rest}
+pub use Rattle.std.proofs.lemmas.List.{append-nil, reverse-append, take-append-drop, drop-drop, drop-take, drop_all, drop_more, get_or-drop, get_or-take, take-take, take_rest}
 pub use Rattle.std.proofs.lemmas.List.Concat.{flat_map-cons}
 pub use Rattle.std.proofs.lemmas.List.Elements.{All-append, All-cons, All-from_get_or, All-nil, filter_map-append}
 pub use Rattle.std.proofs.lemmas.List.Folds.{drop_split}

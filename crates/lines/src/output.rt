@@ -1,5 +1,5 @@
 //! Gathers bytes before they are written.
-ghost use Rattle.std.specs.Prelude.{◌≡◌, ◌||◌, if◌then◌else◌, [], false, is_err, OnOk, OnErr, IsOkUnless, IsFalse};
+ghost use Rattle.std.specs.Prelude.{◌≡◌, ◌||◌, if◌then◌else◌, [], false, is_err, OnOk, OnErr, IsOkUnless, IsTrue, IsFalse};
 ghost use Rattle.std.specs.Io.KnownBytes.{Appends};
 ghost use Rattle.lines.specs.Outputs.{Puts, Prints, FailsIn, AppendsBeginning};
 
@@ -83,6 +83,7 @@ impl<'a, W: Write> Output<'a, W> {
         ensures err { OnErr result (FailsIn self.old self.new bytes.now) }
         ensures works { OnOk result (IsFalse self.new.failed) }
         ensures failed { self.new.failed ≡ (self.old.failed || is_err result) }
+        ensures stays { IsTrue self.old.failed → self.new ≡ self.old }
         ensures fault { IsOkUnless result RunFault.Write }
     {
         if self.writer.failed() {
@@ -165,6 +166,7 @@ impl<'a, W: Write> Output<'a, W> {
         ensures err { OnErr result (AppendsBeginning self.old.holds self.new.holds self.old.waits) }
         ensures works { OnOk result (IsFalse self.new.failed) }
         ensures failed { self.new.failed ≡ (self.old.failed || is_err result) }
+        ensures stays { IsTrue self.old.failed → self.new ≡ self.old }
         ensures fault { IsOkUnless result RunFault.Write }
     {
         if self.writer.failed() {
@@ -191,6 +193,7 @@ impl<'a, W: Write> Output<'a, W> {
         ensures err { OnErr result (AppendsBeginning self.old.holds self.new.holds self.old.waits) }
         ensures works { OnOk result (IsFalse self.new.failed) }
         ensures failed { self.new.failed ≡ (self.old.failed || is_err result) }
+        ensures stays { IsTrue self.old.failed → self.new ≡ self.old }
         ensures fault { IsOkUnless result RunFault.Write }
     {
         self.hand_on()?;

@@ -13,10 +13,10 @@ pub use Rattle.options.specs.declared.table.Table.{Table}
 pub use Rattle.program.proofs.Runs.{not_asked}
 pub use Rattle.program.specs.Endings.{Ending, EndsPrinting, Refuses}
 pub use Rattle.program.specs.Runs.{text_asked}
-pub use Rattle.std.proofs.Common.{Bool, List, [], ap, arith, drop, false, inl, inr, length, map, min, not, refl, subst, sym, take, true, true≢false, ℕ, ◌&&◌, ◌++◌, ◌-◌, ◌<◌, ◌==◌, ◌^◌, ◌∙◌, ◌∷◌, ◌≡◌, ◌≢◌, ◌≤◌, ◌⊎◌}
+pub use Rattle.std.proofs.Common.{Bool, List, [], ap, arith, drop, false, inl, inr, length, map, not, refl, subst, sym, true, true≢false, ℕ, ◌&&◌, ◌++◌, ◌-◌, ◌<◌, ◌==◌, ◌∙◌, ◌∷◌, ◌≡◌, ◌≢◌, ◌≤◌, ◌⊎◌}
 pub use Rattle.std.proofs.lemmas.Str.Pattern.{strip_prefix_char}
-pub use Rattle.std.specs.Char.{is_ascii_digit}
+
 pub use Rattle.std.specs.List.{list_all}
 pub use Rattle.std.specs.Option.{is_some}
-pub use Rattle.std.specs.Prelude.{MatchOption, None, Option, Some, String, bytes_eq, codes, if◌then◌else◌, nat_le, nat_lt}
+pub use Rattle.std.specs.Prelude.{MatchOption, None, Option, Some, String, bytes_eq, codes, nat_lt}
 pub use Rattle.std.specs.String.{string_bytes}

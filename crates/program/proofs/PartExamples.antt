@@ -1,5 +1,5 @@
 -- What the definitions promise, part by part: a definition without one of these parts would not give it.
-use Rattle.program.proofs.Words.{◌≡◌, ℕ, List, refl, subst, IsTrue, IsFalse, Option, Some, MatchOption, Ok, Err, if◌then◌else◌, String, Written, Prints, Writes, status_of, Ending, IsSilent, HasTold, HasWritten, EndsPrinting, Reports, text_asked, EndsRun}
+use Rattle.program.proofs.Words.{◌≡◌, ℕ, true, List, refl, subst, IsTrue, IsFalse, Option, Some, MatchOption, Ok, Err, if◌then◌else◌, String, Written, Prints, FailsIn, Writes, status_of, Ending, IsSilent, HasTold, HasWritten, EndsPrinting, Reports, text_asked, EndsRun}
 
 -- ---- messages
 
@@ -7,9 +7,13 @@ pub what_is_told : {W : Type 0} (old new : Written W) (text : List ℕ) → Repo
     → Prints old new text
 what_is_told old new text h works = h.told works
 
-pub a_failed_writer_stays_failed : {W : Type 0} (old new : Written W) (text : List ℕ) → Reports old new text
-    → IsTrue old.failed → IsTrue new.failed
-a_failed_writer_stays_failed old new text h failed = h.failed failed
+pub what_a_failing_writer_took : {W : Type 0} (old new : Written W) (text : List ℕ) → Reports old new text
+    → IsTrue new.failed → FailsIn old new text
+what_a_failing_writer_took old new text h fails = h.cut fails
+
+pub a_failed_writer_is_not_called : {W : Type 0} (old new : Written W) (text : List ℕ) → Reports old new text
+    → IsTrue old.failed → new ≡ old
+a_failed_writer_is_not_called old new text h failed = h.stays failed
 
 -- ---- endings
 
@@ -33,6 +37,7 @@ what_was_written end text h = h
 
 pub what_was_printed : {W E : Type 0} (end : Ending W E) (text : List ℕ) → EndsPrinting text end
     → (end.status ≡ (if end.output_after.failed then 2 else 0)) × (end.status ≡ 0 → HasWritten end text)
+    × (end.output_after.failed ≡ true → FailsIn end.output end.output_after text)
 what_was_printed end text h = h
 
 pub what_a_run_prints : {Z W E : Type 0} (help version text : List ℕ) (words : List (String Z))

@@ -1,5 +1,5 @@
 -- Texts that are put, one after the other.
-use Rattle.program.proofs.Words.{◌≡◌, ◌∙◌, [], ℕ, Bool, true, false, List, ◌++◌, refl, sym, ap, subst, true≢false, append_assoc, Result, Ok, Err, OnErr, is_err, Written, AppendsBeginning, Prints, FailsIn, puts_nothing, puts_more, begins_within, begins_after_puts, PutsOrFails}
+use Rattle.program.proofs.Words.{◌≡◌, ◌∙◌, [], ℕ, Bool, true, false, List, ◌++◌, refl, sym, ap, subst, true≢false, append-nil, append_assoc, Result, Ok, Err, OnErr, is_err, Written, AppendsBeginning, Prints, FailsIn, puts_nothing, puts_more, begins_within, begins_after_puts, PutsOrFails}
 use Rattle.std.proofs.Common.{◌||◌}
 
 pub on_err : {T E : Type 0} (result : Result T E) (P : Type 0) → P → OnErr result P
@@ -68,3 +68,19 @@ module _ {W T E : Type 0} where
   puts_none x old other same = puts_it (Ok x) old old [] other same
       (record
       { ok = puts_nothing old.holds old.waits; failed = works_still old.failed old.failed refl; beginning = tt })
+
+-- ---- what is written
+
+-- the writer failed after the text was put
+pub begins_written : {W : Type 0} (old mid new : Written W) (text : List ℕ) → Prints old mid text
+    → AppendsBeginning mid.holds new.holds mid.waits → FailsIn old new text
+begins_written old mid new text prints begins =
+    subst (λ (t : List ℕ). AppendsBeginning old.holds new.holds (old.waits ++ t)) (append-nil text)
+    (begins_after_puts old.holds mid.holds new.holds old.waits mid.waits text [] prints
+    (subst (λ (t : List ℕ). AppendsBeginning mid.holds new.holds t) (sym (append-nil mid.waits)) begins))
+
+pub begins_if_failed : {W T E : Type 0} (result : Result T E) (old mid new : Written W) (text : List ℕ)
+    → Prints old mid text → OnErr result (AppendsBeginning mid.holds new.holds mid.waits)
+    → OnErr result (FailsIn old new text)
+begins_if_failed (Ok x) old mid new text prints begins = tt
+begins_if_failed (Err e) old mid new text prints begins = begins_written old mid new text prints begins

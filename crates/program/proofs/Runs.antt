@@ -1,5 +1,20 @@
 -- How a run ends, by what the only word asks for.
-use Rattle.program.proofs.Words.{◌≡◌, List, ℕ, sym, subst, Option, None, Some, MatchOption, String, Ending, EndsPrinting, text_asked, EndsRun}
+use Rattle.program.proofs.Words.{◌≡◌, ◌∙◌, List, ℕ, Bool, sym, ap, arith, subst, true≢false, if◌then◌else◌, Result, Ok, Err, OnOk, OnErr, is_err, FailsIn, HasWritten, status_of, Option, None, Some, MatchOption, String, Ending, EndsPrinting, text_asked, EndsRun}
+
+-- a text was written, or the writer failed
+pub text_printed : {T F W E : Type 0} (written : Result T F) (text : List ℕ) (end : Ending W E)
+    → OnOk written (HasWritten end text) → OnErr written (FailsIn end.output end.output_after text)
+    → end.output_after.failed ≡ is_err written → end.status ≡ status_of written 0 → EndsPrinting text end
+text_printed (Ok done) text end wrote cut failed status = (
+  status ∙ sym (ap (λ (b : Bool). if b then 2 else 0) failed),
+  (λ zero. wrote),
+  (λ fails. absurd (true≢false (sym fails ∙ failed))),
+)
+text_printed (Err fault) text end wrote cut failed status = (
+  status ∙ sym (ap (λ (b : Bool). if b then 2 else 0) failed),
+  (λ zero. absurd (omega (arith, status, zero))),
+  (λ fails. cut),
+)
 
 module _ {Z W E : Type 0} (help version : List ℕ) (words : List (String Z)) (Otherwise : Type 0)
     (end : Ending W E) where

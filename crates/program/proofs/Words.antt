@@ -18,7 +18,7 @@ pub use Rattle.lists.specs.Reading.{ReadsList, StopsAt, StopsAtText}
 pub use Rattle.lists.specs.Refusals.{Refused}
 pub use Rattle.lists.specs.declared.named.ReadFault.TheVariants.{Open, OutOfMemory, Read}
 pub use Rattle.lists.specs.declared.opening.OpenFault.{OpenFault}
-pub use Rattle.program.specs.Endings.{Ending, EndsPrinting, HasTold, HasWritten, IsSilent, status_of}
+pub use Rattle.program.specs.Endings.{Ending, EndsPrinting, ending, HasTold, HasWritten, IsSilent, status_of}
 pub use Rattle.program.specs.Escapes.{escaped, escaped_behind, hex_digit}
 pub use Rattle.program.specs.LogFaults.{StopsBy, Wrote}
 pub use Rattle.program.specs.LogLines.{IsWhole, LogLine, content, ended, ended_lines, feed_behind, lines_in, log_line, log_lines, printed, unended}
@@ -33,7 +33,7 @@ pub use Rattle.program.specs.Words.{begins_with, count, is, is_only, without_fir
 pub use Rattle.program.specs.declared.log_fault.LogFault.{LogFault}
 pub use Rattle.program.specs.declared.log_reader.NextLogLine.TheVariants.{End, Line, TooLong}
 pub use Rattle.std.proofs.Common.{Bool, List, [], ap, append-nil, append_assoc, ap₂, arith, codes, cond, drop, false, get_or, inl, inr, length, length-append, length-drop, length-take, not, refl, rules, slice_index, subst, suc, sym, take, true, true≢false, zero, ℕ, ◌%◌, ◌&&◌, ◌*◌, ◌++◌, ◌+◌, ◌-◌, ◌/◌, ◌<◌, ◌==◌, ◌^◌, ◌∙◌, ◌∷◌, ◌≡◌, ◌≤◌, ◌⊎◌}
-pub use Rattle.std.proofs.KnownBytes.{Appends-trans, Consumes-kept, Consumes-nil, Consumes-trans}
+pub use Rattle.std.proofs.KnownBytes.{Appends-nil, Appends-trans, Consumes-kept, Consumes-nil, Consumes-trans}
 pub use Rattle.std.proofs.Math.Nat.{mul_comm}
 pub use Rattle.std.proofs.lemmas.Bool.{ne_eqb}
 pub use Rattle.std.proofs.lemmas.Bool.Decides.{eqb_tells}
@@ -43,6 +43,6 @@ pub use Rattle.std.proofs.lemmas.Nat.{mul-add-lt}
 pub use Rattle.std.proofs.lemmas.Option.{none-some}
 pub use Rattle.std.specs.Io.KnownBytes.{Appends, Consumes, IsAtEnd, Keeps}
 pub use Rattle.std.specs.List.{flat_map, list_all, slice_split}
-pub use Rattle.std.specs.Prelude.{Err, IsFalse, IsTrue, MatchOption, None, Ok, OnErr, Option, Result, Some, String, bytes_eq, if◌then◌else◌, is_err, map, ◌||◌}
+pub use Rattle.std.specs.Prelude.{Err, IsFalse, IsTrue, MatchOption, None, Ok, OnErr, OnOk, Option, Result, Some, String, bytes_eq, if◌then◌else◌, is_err, map, ◌||◌}
 pub use Rattle.std.specs.Str.Lines.{lines, strip_carriage_return}
 pub use Rattle.std.specs.String.{string_bytes}

@@ -1,6 +1,6 @@
 -- How a program ends.
-use Rattle.std.specs.Prelude.{◌≡◌, ℕ, List, if◌then◌else◌, Result, is_err}
-use Rattle.lines.specs.Outputs.{Written, Writes}
+use Rattle.std.specs.Prelude.{◌≡◌, ℕ, List, true, if◌then◌else◌, Result, is_err}
+use Rattle.lines.specs.Outputs.{Written, Writes, FailsIn}
 use Rattle.program.specs.Messages.{Reports}
 
 -- the exit status of a program: `status` if its output was written, and 2 if not
@@ -42,7 +42,9 @@ HasWritten end text = Writes end.output end.output_after text
 abbrev pub Refuses : {W E : Type 0} → List ℕ → Ending W E → Type 0
 Refuses text end = IsSilent end × HasTold end text
 
--- the run wrote the text, and its exit status is 0; or the writer has failed, and it is 2
+-- the run wrote the text, and its exit status is 0; or the writer has failed, and it is 2; a writer that failed took a
+-- beginning of the text
 abbrev pub EndsPrinting : {W E : Type 0} → List ℕ → Ending W E → Type 0
 EndsPrinting text end = (end.status ≡ (if end.output_after.failed then 2 else 0))
     × (end.status ≡ 0 → HasWritten end text)
+    × (end.output_after.failed ≡ true → FailsIn end.output end.output_after text)

@@ -1,6 +1,6 @@
 //! How a program ends: its exit status, and what it reports about its output.
-ghost use Rattle.std.specs.Prelude.{◌≡◌, OnOk, is_err};
-ghost use Rattle.lines.specs.Outputs.{Writes};
+ghost use Rattle.std.specs.Prelude.{◌≡◌, OnOk, OnErr, is_err};
+ghost use Rattle.lines.specs.Outputs.{Writes, FailsIn};
 ghost use Rattle.program.specs.Endings.{ending, status_of, EndsPrinting};
 
 use crate::messages::{tell, tell_of};
@@ -64,6 +64,7 @@ pub fn print_text<W: Write, E: Write>(
 // Writes what waits in the output, and then a text.
 fn write_text<W: Write>(text: &str, output: &mut Output<'_, W>) -> Result<(), RunFault>
     ensures written { OnOk result (Writes output.old output.new text.now) }
+    ensures cut { OnErr result (FailsIn output.old output.new text.now) }
     ensures failed { output.new.failed ≡ is_err result }
 {
     output.put(text.as_bytes())?;

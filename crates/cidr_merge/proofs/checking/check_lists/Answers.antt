@@ -1,5 +1,13 @@
-use Rattle.cidr_merge.proofs.Known.{◌∙◌, ℕ, List, ap, subst, flat_map, name_at, findings_by, line_findings, said_by, TellsFound, more_so_far}
+use Rattle.cidr_merge.proofs.Known.{◌∙◌, ℕ, List, ap, subst, flat_map, name_at, findings_by, line_findings, said_by, TellsFound, more_so_far, none_so_far}
 use Rattle.cidr_merge.proofs.checking.check_lists.Goals as goal
+
+pub loop-line-init : goal.loop-line-init
+loop-line-init g c =
+    let names = c.args.lists.now.names.now in record {
+      names = c.of-lines.ensures.names;
+      told = none_so_far _ _ c.args.output.now
+          (ap (flat_map (line_findings c.args.strictly names)) c.of-lines.ensures.lines);
+    }
 
 pub loop-line-preserved : goal.loop-line-preserved
 loop-line-preserved g c =

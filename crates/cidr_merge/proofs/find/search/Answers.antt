@@ -9,5 +9,6 @@ returns g c =
     c.args.output.now reported.new.output c.finish-written.new.self c.finish-written.result reported.result.printed
     c.either.result c.status-status.result c.end.result reported.ensures.printed
     (rw (c.tell_others-told.ensures, reported.ensures.told) at c.either.ensures)
-    c.status-status.ensures c.finish-written.ensures.ok c.finish-written.ensures.works c.finish-written.ensures.failed
+    c.status-status.ensures c.finish-written.ensures.ok c.finish-written.ensures.err c.finish-written.ensures.works c.finish-written.ensures.failed
+    c.finish-written.ensures.stays
     c.end.ensures

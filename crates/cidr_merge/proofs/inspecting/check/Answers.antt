@@ -8,4 +8,5 @@ returns g c =
     (map (λ text. text.items) c.args.lists.now.texts.now) in
     all_written findings c.args.output.now found.new.output c.finish-written.new.self c.finish-written.result
     c.status.result _ c.end.result found.ensures.0 (c.status.ensures ∙ status_is findings found.result found.ensures.1)
-    c.finish-written.ensures.ok c.finish-written.ensures.works c.finish-written.ensures.failed c.end.ensures
+    c.finish-written.ensures.ok c.finish-written.ensures.err c.finish-written.ensures.works c.finish-written.ensures.failed
+    c.finish-written.ensures.stays c.end.ensures

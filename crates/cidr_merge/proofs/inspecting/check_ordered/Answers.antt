@@ -9,5 +9,5 @@ returns g c =
     c.finish-written.new.self c.finish-written.result c.check_lists-wrong.result c.tell_ordered-more.result
     c.either.result
     c.status.result c.end.result c.in-Ok.ensures c.check_lists-wrong.ensures c.tell_ordered-more.ensures
-    c.either.ensures c.status.ensures c.finish-written.ensures.ok c.finish-written.ensures.works
-    c.finish-written.ensures.failed c.end.ensures
+    c.either.ensures c.status.ensures c.finish-written.ensures.ok c.finish-written.ensures.err
+    c.finish-written.ensures.works c.finish-written.ensures.failed c.finish-written.ensures.stays c.end.ensures

@@ -22,7 +22,8 @@ returns-in-TooLong-clause-gives g c = λ remained first h.
 
 pub returns-in_default-clause-breaks : goal.returns-in_default-clause-breaks
 returns-in_default-clause-breaks g c = λ remained first h.
-    let breaks = write_breaks _ remained _ first (c.asks.invariant.hands remained first (by_fields c.self.view_is h)) in (
+    let handed = c.asks.invariant.hands remained first (by_fields c.self.view_is h) in
+    let breaks = write_breaks _ remained _ first handed in (
       failed_now c.hand_on.new.self.failed _ c.in_default.ensures.failed,
       fails_idle _ _ _ _ _ c.asks.invariant.puts c.in_default.ensures.err,
       breaks.0,
@@ -133,7 +134,8 @@ returns-in-Ok-hand_on-clause-gives g c = λ remained first h.
 
 pub returns-in-Err-clause-breaks : goal.returns-in-Err-clause-breaks
 returns-in-Err-clause-breaks g c = λ remained first h.
-    let breaks = write_breaks _ remained _ first (c.asks.invariant.hands remained first (by_fields c.self.view_is h)) in (
+    let handed = c.asks.invariant.hands remained first (by_fields c.self.view_is h) in
+    let breaks = write_breaks _ remained _ first handed in (
       failed_now c.hand_on-in-End.new.self.failed _ c.in-Err.ensures.failed,
       fails_idle _ _ _ _ _ c.asks.invariant.puts c.in-Err.ensures.err,
       breaks.0,
