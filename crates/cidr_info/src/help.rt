@@ -12,7 +12,7 @@ Prints facts about IP networks: addresses, masks, sizes and names.
     --in OUTER      print nothing: the status tells whether every NETWORK lies within this network.
                     Not with --json
     --quiet         as the first word: do not show on a terminal how much was read
-    --help          print this text
+    --help          print this text, as does -h alone
     --version       print the version
 
 A NETWORK is 10.1.9.32/20, 10.1.9.32/255.255.240.0, 2001:db8::/32 or an address, 10.1.9.32; or -,

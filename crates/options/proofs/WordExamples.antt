@@ -21,6 +21,13 @@ pub letters : map (free_items rows) (codes "-vq" ∷ codes "-n5" ∷ codes "-qn5
     ∷ (says.Joined 2 (codes "q") (codes "-nq") ∷ []) ∷ []
 letters = refl
 
+-- a `=` before a value is none of it, but may be the whole value or follow
+pub signs : map (free_items rows) (codes "-n=5" ∷ codes "-qn=5" ∷ codes "-n=" ∷ codes "-n==" ∷ codes "-n5=" ∷ [])
+    ≡ (says.Joined 2 (codes "5") (codes "-n=5") ∷ []) ∷ (says.Flag 1 ∷ says.Value 2 (codes "5") ∷ [])
+    ∷ (says.Joined 2 (codes "=") (codes "-n=") ∷ []) ∷ (says.Joined 2 (codes "=") (codes "-n==") ∷ [])
+    ∷ (says.Joined 2 (codes "5=") (codes "-n5=") ∷ []) ∷ []
+signs = refl
+
 pub long_names :
     map (free_items rows) (codes "--all" ∷ codes "--nth" ∷ codes "--nth=5" ∷ codes "--nth=" ∷ codes "--nth=a=b" ∷ [])
     ≡ (says.Flag 5 ∷ []) ∷ [] ∷ (says.Joined 3 (codes "5") (codes "--nth=5") ∷ [])

@@ -18,12 +18,18 @@ begins first text = bytes_eq (take (length first) text) first
 abbrev pub is_plain : List ℕ → Bool
 is_plain word = bytes_eq word (codes "-") || not (begins (codes "-") word)
 
--- the item of an option that takes a value, with what follows its letter in the word as the value; no item if nothing
--- follows, since the value is then the next word
+-- a text less the `=` (byte 61) that it begins with, if more follows
+abbrev pub behind_sign : List ℕ → List ℕ
+behind_sign [] = []
+behind_sign (byte ∷ []) = byte ∷ []
+behind_sign (byte ∷ next ∷ text) = if byte == 61 then next ∷ text else byte ∷ next ∷ text
+
+-- the item of an option that takes a value, with what follows its letter in the word as the value, less a `=` before
+-- it; no item if nothing follows, since the value is then the next word
 abbrev pub value_items : ℕ → Bool → List ℕ → List ℕ → List Item
 value_items row first word [] = []
-value_items row true word (byte ∷ text) = says.Joined row (byte ∷ text) word ∷ []
-value_items row false word (byte ∷ text) = says.Value row (byte ∷ text) ∷ []
+value_items row true word (byte ∷ text) = says.Joined row (behind_sign (byte ∷ text)) word ∷ []
+value_items row false word (byte ∷ text) = says.Value row (behind_sign (byte ∷ text)) ∷ []
 
 -- the items of a letter and of what follows it in the word: an unknown word if it is no option's letter; an option and
 -- its value; or an option without a value, and then the items `others`

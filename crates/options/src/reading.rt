@@ -1,7 +1,7 @@
 //! Reads the words of a command line, by the rows of a table of options.
 ghost use Rattle.std.specs.Prelude.{◌≡◌, ◌≢◌, ℕ, ◌++◌, ◌∷◌, ◌<◌, List, [], true, None, drop, codes, OnOk, IfOk, IfSome, MatchOption};
 ghost use Rattle.std.specs.String.{string_bytes};
-ghost use Rattle.options.specs.Items.{begins, is_plain, value_items, opened, letters, letters_mode, name_items, joined_name, name_mode, free_items, free_mode, word_items, next_mode, end_items, items_of};
+ghost use Rattle.options.specs.Items.{begins, is_plain, behind_sign, value_items, opened, letters, letters_mode, name_items, joined_name, name_mode, free_items, free_mode, word_items, next_mode, end_items, items_of};
 ghost use Rattle.options.specs.Table.{named};
 
 use crate::items::{Item, Mode, Text};
@@ -178,12 +178,23 @@ fn put_value<'a>(
     if value.is_empty() {
         return Ok(Mode::Value(row));
     }
+    let value = behind_sign(value);
     if first {
         all.push(Item::Joined(row, Text::new(value), Text::new(word)))?;
     } else {
         all.push(Item::Value(row, Text::new(value)))?;
     }
     Ok(Mode::Free)
+}
+
+// Returns the value without the `=` before it, if there is one and more follows.
+fn behind_sign(value: &str) -> &str
+    ensures { result.now ≡ behind_sign value.now }
+{
+    match value.strip_prefix('=') {
+        Some(rest) => { if rest.is_empty() { value } else { rest } }
+        None => value,
+    }
 }
 
 // Returns what follows the `-` at the start of a word.

@@ -87,6 +87,10 @@ pub the_help : {Z : Type 0} (word : String Z) (help version : List ℕ) → stri
     → text_asked help version (word ∷ []) ≡ Some help
 the_help word help version e = rw e
 
+pub the_help_by_a_letter : {Z : Type 0} (word : String Z) (help version : List ℕ) → string_bytes word ≡ codes "-h"
+    → text_asked help version (word ∷ []) ≡ Some help
+the_help_by_a_letter word help version e = rw e
+
 pub the_version : {Z : Type 0} (word : String Z) (help version : List ℕ) → string_bytes word ≡ codes "--version"
     → text_asked help version (word ∷ []) ≡ Some version
 the_version word help version e = rw e

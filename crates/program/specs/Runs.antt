@@ -1,12 +1,12 @@
 -- What a program prints about itself.
-use Rattle.std.specs.Prelude.{ℕ, List, Option, None, Some, MatchOption, if◌then◌else◌, codes, String}
+use Rattle.std.specs.Prelude.{ℕ, List, Option, None, Some, MatchOption, ◌||◌, if◌then◌else◌, codes, String}
 use Rattle.program.specs.Endings.{Ending, EndsPrinting}
 use Rattle.program.specs.Words.{is_only}
 
--- the text that the only word asks for: the help for `--help`, the version for `--version`
+-- the text that the only word asks for: the help for `--help` or `-h`, the version for `--version`
 abbrev pub text_asked : {Z : Type 0} → List ℕ → List ℕ → List (String Z) → Option (List ℕ)
 text_asked help version words =
-    if is_only (codes "--help") words then Some help
+    if is_only (codes "--help") words || is_only (codes "-h") words then Some help
     else if is_only (codes "--version") words then Some version
     else None
 

@@ -102,7 +102,7 @@ fn without_quiet(words: &[String]) -> &[String]
     }
 }
 
-/// Returns the text that the only word asks for: the help for `--help`, the version for
+/// Returns the text that the only word asks for: the help for `--help` or `-h`, the version for
 /// `--version`, or `None` for any other words.
 ///
 /// ```
@@ -112,7 +112,7 @@ pub fn text_asked<'a>(help: &'a str, version: &'a str, words: &[String]) -> Opti
     ensures { let asked = text_asked help.now version.now words.now in
         MatchOption result (asked ≡ None) (λ text. asked ≡ Some text.now) }
 {
-    if is_only(words, "--help") {
+    if is_only(words, "--help") || is_only(words, "-h") {
         Some(help)
     } else if is_only(words, "--version") {
         Some(version)

@@ -56,11 +56,11 @@ Prints the lines of logs whose address is in a list of IP networks.
     --bad report    it is not printed; for each FILE is reported how many there are, and how many
                     are too long
     --quiet         as the first word: do not show on a terminal how much was read
-    --help          print this text
+    --help          print this text, as does -h alone
     --version       print the version
 
 Options may follow FILEs; every word after -- is a FILE. Options of one letter can be joined, the
-last with its value: -vk1, -e10.0.0.0/8; --bad=keep is --bad keep. A FILE is a name, or - for
+last with its value: -vk1, -e=10.0.0.0/8; --bad=keep is --bad keep. A FILE is a name, or - for
 standard input, which is read if no FILE is given. Lines are printed unchanged; a last line without
 a line feed gets one. A line has at most 1,048,576 bytes; a longer one has no address and is never
 printed, and the first in each FILE is reported. A FILE that cannot be opened is reported, and the

@@ -47,13 +47,13 @@ Prints the lines of logs, each with the value that a list gives its address.
     --bad report    it is printed after a minus sign; for each FILE is reported how many there are,
                     and how many are too long
     --quiet         as the first word: do not show on a terminal how much was read
-    --help          print this text
+    --help          print this text, as does -h alone
     --version       print the version
 
 Each line is printed after the value of the longest network of the list that has its address, and a
 tab; after a minus sign and a tab if no network has it, or the line has no address. Options may
 follow FILEs; every word after -- is a FILE. Options of one letter can be joined, the last with its
-value: -wk1, -flist; --bad=keep is --bad keep. A FILE is a name, or - for standard input, which is
+value: -wk1, -f=list; --bad=keep is --bad keep. A FILE is a name, or - for standard input, which is
 read if no FILE is given. Lines are printed unchanged; a last line without a line feed gets one. A
 line has at most 1,048,576 bytes; a longer one is not printed and counts as one without an address,
 and the first in each FILE is reported. A line of a LIST has at most 1,024 bytes, and a LIST

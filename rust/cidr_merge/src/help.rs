@@ -25,7 +25,7 @@ Merges lists of IP networks, and prints the shortest list with exactly the resul
     --skip-bad     report refused lines, and print the result for the others
     --json         each FILE is JSON: use its strings that are entries; --strict refuses others
     --quiet        as the first word: do not show on a terminal how much was read
-    --help         print this text; --version prints the version. Options can stand in any order
+    --help         print this text, as does -h; --version prints the version. Options in any order
 
 A FILE is a name, or - for standard input. A line has a network (10.0.0.0/8, 10.0.0.1,
 2001:db8::/32), a range (A - B) or nothing, and at most 1,024 bytes; # and ; begin a comment. Host

@@ -154,12 +154,21 @@ fn put_value<'a>(
     if value.is_empty() {
         return Ok(Mode::Value(row));
     }
+    let value = behind_sign(value);
     if first {
         all.push(Item::Joined(row, Text::new(value), Text::new(word)))?;
     } else {
         all.push(Item::Value(row, Text::new(value)))?;
     }
     Ok(Mode::Free)
+}
+
+// Returns the value without the `=` before it, if there is one and more follows.
+fn behind_sign(value: &str) -> &str {
+    match value.strip_prefix('=') {
+        Some(rest) if !rest.is_empty() => rest,
+        _ => value,
+    }
 }
 
 // Returns what follows the `-` at the start of a word.

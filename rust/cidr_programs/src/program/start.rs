@@ -95,7 +95,7 @@ fn without_quiet(words: &[String]) -> &[String] {
     }
 }
 
-/// Returns the text that the only word asks for: the help for `--help`, the version for
+/// Returns the text that the only word asks for: the help for `--help` or `-h`, the version for
 /// `--version`, or `None` for any other words.
 ///
 /// ```
@@ -103,7 +103,7 @@ fn without_quiet(words: &[String]) -> &[String] {
 /// assert_eq!(cidr_programs::program::start::text_asked("Adds.\n", "sum 1\n", &[]), None);
 /// ```
 pub fn text_asked<'a>(help: &'a str, version: &'a str, words: &[String]) -> Option<&'a str> {
-    if is_only(words, "--help") {
+    if is_only(words, "--help") || is_only(words, "-h") {
         Some(help)
     } else if is_only(words, "--version") {
         Some(version)
