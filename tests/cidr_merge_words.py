@@ -12,7 +12,8 @@ LINES = ["--line-prefix x", "--line-suffix x"]
 READ = ["-e 10.0.0.1", "--skip-bad", "--json", "--strict"]
 FORMS = [f"--format {form}" for form in "plain range netmask wildcard csv nft ipset json addresses".split()]
 PRINTED = [*READ, "--ranges", "--count", *FORMS, "--set b", "--table b", "--maxelem 9", *LINES]
-OPTIONS = [*PRINTED, "--prefix 24", "--most 9", "--from halves"]
+COUNTED = ["--most 9", "--ipv4 9", "--ipv6 9", "--max-others any"]
+OPTIONS = [*PRINTED, *COUNTED, "--prefix 24", "--from halves"]
 
 # The operations with one FILE or more, and the options that each takes.
 TASKS = {
@@ -22,7 +23,7 @@ TASKS = {
     "minus f -- f": PRINTED,
     "differ f -- f": PRINTED,
     "split f": [*READ, *LINES, "--prefix 24"],
-    "reduce f": [*PRINTED, "--most 9"],
+    "reduce f": [*PRINTED, *COUNTED],
     "check f": ["-e 10.0.0.1", "--strict"],
     "overlaps f": ["-e 10.0.0.1"],
     "find ::1 -- f": ["-e 10.0.0.1", "--from halves"],
@@ -42,7 +43,8 @@ def are_right(task, options):
         not any(words.count(word) > 1 for word in words if " " in options[words.index(word)] and word != "-e"),
         "--strict" not in words or "--json" in words or name == "check",
         "--prefix" in words or name != "split",
-        "--most" in words or name != "reduce",
+        {"--most", "--ipv4", "--ipv6"} & set(words) or name != "reduce",
+        "--most" not in words or not {"--ipv4", "--ipv6"} & set(words),
         name != "differ" or not any(option in FORMS for option in options) or form in ("plain", "range"),
         "--set" not in words or form in ("nft", "ipset"),
         "--table" not in words or form == "nft",

@@ -170,12 +170,12 @@ pub no_files : (files_among tasks.Find 2 (codes "-" ∷ [] ∷ codes "-" ∷ [])
 no_files = (refl, refl)
 
 -- the options that each task takes, by their rows: `--prefix` is row 10, `--from` 11, `-e` 12, `--most` 13, `--maxelem`
--- 14; rows 15 to 17 are `--help`, `--version` and `--quiet`
-pub options_of_tasks : map (λ task. filter (takes task) (range_with_len 0 18)) (tasks.Merge Union ∷ tasks.Merge Differ
+-- 14, `--ipv4` 15, `--ipv6` 16, `--max-others` 17; rows 18 to 20 are `--help`, `--version` and `--quiet`
+pub options_of_tasks : map (λ task. filter (takes task) (range_with_len 0 21)) (tasks.Merge Union ∷ tasks.Merge Differ
     ∷ tasks.List ∷ tasks.Split ∷ tasks.Reduce ∷ tasks.Check ∷ tasks.Overlaps ∷ tasks.Find ∷ [])
     ≡ (range_with_len 0 10 ++ 12 ∷ 14 ∷ []) ∷ (range_with_len 0 10 ++ 12 ∷ 14 ∷ [])
     ∷ (range_with_len 0 10 ++ 12 ∷ 14 ∷ [])
-    ∷ (3 ∷ 4 ∷ 5 ∷ 8 ∷ 9 ∷ 10 ∷ 12 ∷ []) ∷ (range_with_len 0 10 ++ 12 ∷ 13 ∷ 14 ∷ [])
+    ∷ (3 ∷ 4 ∷ 5 ∷ 8 ∷ 9 ∷ 10 ∷ 12 ∷ []) ∷ (range_with_len 0 10 ++ range_with_len 12 6)
     ∷ (5 ∷ 12 ∷ []) ∷ (12 ∷ []) ∷ (11 ∷ 12 ∷ []) ∷ []
 options_of_tasks = refl
 

@@ -1,3 +1,4 @@
+pub mod BoundExamples
 pub mod CheckExamples
 pub mod Cuts
 pub mod Examples
@@ -14,6 +15,7 @@ pub mod OverlapEnds
 pub mod OverlapExamples
 pub mod OverlapPairs
 pub mod Passed
+pub mod Percents
 pub mod Places
 pub mod Printed
 pub mod Putting

@@ -1,5 +1,5 @@
 -- Texts that are put, one after the other, and then written.
-use Rattle.cidr_merge.proofs.Words.{◌≡◌, ◌||◌, ◌∙◌, ℕ, List, [], ◌++◌, Bool, false, ap, refl, sym, subst, append-nil, inl, inr, true, Result, Ok, Err, OnOk, OnErr, is_err, Appends, begins_written, puts_more, AppendsBeginning, FailsIn, Prints, Written, fails_first, puts_two, status_of, PutsOrFails, count_line, sign_of, AreBoth, AreCountLines, AreCountsLeft, AreCounts, IsCount, PutsSome, WritesOrFails, EndsWriting, Operation, Union, Common, Minus, Differ, Sets, First, Second}
+use Rattle.cidr_merge.proofs.Words.{◌≡◌, ◌||◌, ◌∙◌, ℕ, List, ◌++◌, Bool, false, ap, refl, sym, inl, inr, true, Result, Ok, Err, OnOk, OnErr, is_err, Appends, begins_written, puts_more, AppendsBeginning, FailsIn, Prints, Written, fails_first, puts_two, status_of, PutsOrFails, count_line, sign_of, AreBoth, AreCountLines, AreCountsLeft, AreCounts, IsCount, PutsSome, WritesOrFails, EndsWriting, Operation, Union, Common, Minus, Differ, Sets, First, Second}
 use Rattle.std.proofs.Common.{codes, true≢false}
 use Rattle.std.specs.Prelude.{◌≢◌}
 use Rattle.cidr_merge.proofs.Inspected.{fails_now, written_all}

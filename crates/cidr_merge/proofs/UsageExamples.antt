@@ -1,5 +1,5 @@
 -- Words at which a wrong definition of what they ask for would show. Each of these computes.
-use Rattle.cidr_merge.proofs.Words.{◌≡◌, ℕ, List, ◌∷◌, ◌++◌, [], refl, codes, String, Some, None, string_bytes, Table, rows_of, pairs_of, command_of, entries, pairs, spelled_out, Command, Ranges, Union, Minus}
+use Rattle.cidr_merge.proofs.Words.{◌≡◌, ℕ, List, ◌∷◌, ◌++◌, [], refl, codes, String, Some, None, string_bytes, Table, rows_of, pairs_of, command_of, entries, pairs, spelled_out, Command, Blocks, Ranges, Union, Minus, Percent}
 use Rattle.std.specs.Prelude.{false, map, true}
 use Rattle.cidr_merge.specs.declared.command_line.Command.TheVariants as commands
 use Rattle.cidr_merge.specs.declared.command_line.Inspection.TheVariants as inspections
@@ -36,6 +36,9 @@ pub wrong_options : {Z : Type 0} → Wrong Z (codes "union" ∷ codes "a" ∷ co
     × Wrong Z (codes "split" ∷ codes "a" ∷ codes "--skip-bad" ∷ [])
     × Wrong Z (codes "split" ∷ codes "a" ∷ codes "--prefix=129" ∷ [])
     × Wrong Z (codes "reduce" ∷ codes "a" ∷ codes "--most=0" ∷ [])
+    × Wrong Z (codes "reduce" ∷ codes "a" ∷ codes "--max-others=1" ∷ [])
+    × Wrong Z (codes "reduce" ∷ codes "a" ∷ codes "--most=1" ∷ codes "--ipv6=1" ∷ [])
+    × Wrong Z (codes "reduce" ∷ codes "a" ∷ codes "--ipv4=1" ∷ codes "--max-others=%" ∷ [])
 wrong_options = (
   (λ _ o _ a _ b. simp (o, a, b)),
   (λ _ o _ a _ b _ c _ d. simp (o, a, b, c, d)),
@@ -46,6 +49,9 @@ wrong_options = (
   (λ _ o _ a _ b. simp (o, a, b)),
   (λ _ o _ a _ b. simp (o, a, b)),
   (λ _ o _ a _ b. simp (o, a, b)),
+  (λ _ o _ a _ b. simp (o, a, b)),
+  (λ _ o _ a _ b _ c. simp (o, a, b, c)),
+  (λ _ o _ a _ b _ c. simp (o, a, b, c)),
 )
 
 -- sides and names that are not taken
@@ -81,9 +87,22 @@ pub options_anywhere : {Z : Type 0}
     (commands.Split (record { length = 9; skips_bad = true; shape = shapes.Lines })) (codes "a" ∷ [])
     × Ask Z (codes "reduce" ∷ codes "a" ∷ codes "--most=18446744073709551616" ∷ codes "--ranges" ∷ [])
     (commands.Reduce (record {
-      most = 18446744073709551615;
+      v4 = 18446744073709551615;
+      v6 = 18446744073709551615;
+      is_of_one = true;
+      bound = Percent 100;
       merge =
           record { operation = Union; form = Ranges; skips_bad = false; shape = shapes.Lines; middle = 1 };
+    }))
+    (codes "a" ∷ [])
+    × Ask Z (codes "reduce" ∷ codes "a" ∷ codes "--ipv6=7" ∷ codes "--max-others=10%" ∷ [])
+    (commands.Reduce (record {
+      v4 = 0;
+      v6 = 7;
+      is_of_one = false;
+      bound = Percent 10;
+      merge =
+          record { operation = Union; form = Blocks; skips_bad = false; shape = shapes.Lines; middle = 1 };
     }))
     (codes "a" ∷ [])
     × Ask Z (codes "check" ∷ codes "a" ∷ codes "--strict" ∷ []) (commands.Inspect inspections.Strict) (codes "a" ∷ [])
@@ -93,6 +112,7 @@ pub options_anywhere : {Z : Type 0}
     (codes "./-e x" ∷ codes "a" ∷ [])
 options_anywhere = (
   (λ _ o _ a _ b _ c _ d. simp (o, a, b, c, d)),
+  (λ _ o _ a _ b _ c. simp (o, a, b, c)),
   (λ _ o _ a _ b _ c. simp (o, a, b, c)),
   (λ _ o _ a _ b _ c. simp (o, a, b, c)),
   (λ _ o _ a _ b. simp (o, a, b)),

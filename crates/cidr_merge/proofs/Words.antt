@@ -1,6 +1,7 @@
 -- The words of this crate and of those below, passed on from one place.
 pub use Rattle.byte_search.specs.Bytes.{IsAbsent, IsNext}
 pub use Rattle.cidr_merge.specs.Answers.{AreBoth, AreCountLines, AreCounts, AreCountsLeft, IsCount, IsLeft, IsLeftOfSecond, block_line, count_line, merged, merged_by, merged_ranges, range_line, sign_of}
+pub use Rattle.cidr_merge.specs.Bounds.{allows, bound_in, large_number}
 pub use Rattle.cidr_merge.specs.CommandLines.{command_of, sets_of, told_of}
 pub use Rattle.cidr_merge.specs.Endings.{EndsAsked, EndsBy}
 pub use Rattle.cidr_merge.specs.Exports.{address_line, closing, element, export_text, family_name, family_text, following, frame_text, is_any, listed}
@@ -24,6 +25,7 @@ pub use Rattle.cidr_merge.specs.Private.SoughtPlaces.{AreAscending, AreFound, Ar
 pub use Rattle.cidr_merge.specs.Private.Sweeps.{blocks_left, left_of_second, with_head}
 pub use Rattle.cidr_merge.specs.Private.Totals.{AddUp}
 pub use Rattle.cidr_merge.specs.Reading.{ReadsLists, ReadsSide, ReadsSides}
+pub use Rattle.cidr_merge.specs.Reductions.{lacks_number}
 pub use Rattle.cidr_merge.specs.Repetitions.{found_among, further, other_of, overlap_with, repetitions, repetitions_after}
 pub use Rattle.cidr_merge.specs.RightWords.{are_wrong_files, are_wrong_sides, files_among, from_of, is_wrong, takes}
 pub use Rattle.cidr_merge.specs.Runs.{answer_status}
@@ -36,10 +38,12 @@ pub use Rattle.cidr_merge.specs.Stopping.{Stops, StopsInSides}
 pub use Rattle.cidr_merge.specs.Tasks.{task_called}
 pub use Rattle.cidr_merge.specs.Texts.{AreTexts, FileStops, IsText, StopsAs, TextStops, TextsStop}
 pub use Rattle.cidr_merge.specs.Writing.{EndsWriting}
+pub use Rattle.cidr_merge.specs.declared.bounds.Bound.TheVariants.{Any, Number, Percent}
 pub use Rattle.cidr_merge.specs.declared.command_line.Command.{Command}
 pub use Rattle.cidr_merge.specs.declared.command_line.Form.TheVariants.{Blocks, Counts, Exported, Ranges}
 pub use Rattle.cidr_merge.specs.declared.command_line.Operation.{Operation}
 pub use Rattle.cidr_merge.specs.declared.command_line.Operation.TheVariants.{Common, Differ, Minus, Union}
+pub use Rattle.cidr_merge.specs.declared.command_line.ReduceRequest.{ReduceRequest}
 pub use Rattle.cidr_merge.specs.declared.command_line.Request.{Request}
 pub use Rattle.cidr_merge.specs.declared.exports.Export.TheVariants.{Addresses, Csv, Ipset, Json, Netmask, Nft, Wildcard}
 pub use Rattle.cidr_merge.specs.declared.exports.Frame.TheVariants.{FamilyFoot, FamilyHead, Foot, Head, Opening}
@@ -112,7 +116,7 @@ pub use Rattle.program.specs.Messages.{Reports}
 pub use Rattle.program.specs.Putting.{PutsOrFails}
 pub use Rattle.program.specs.Reported.{name_at}
 pub use Rattle.program.specs.Words.{is}
-pub use Rattle.std.proofs.Common.{Bool, List, [], ap, append-nil, append_assoc, arith, cond, decimal, drop, false, filter, get_or, inl, inr, length, length-take, map, min, not, of_calls, refl, rules, set, subst, suc, sym, take, true, zero, ℕ, ⊎_elim, ◌&&◌, ◌*◌, ◌++◌, ◌+◌, ◌-◌, ◌/◌, ◌<◌, ◌==◌, ◌^◌, ◌||◌, ◌↔◌, ◌∙◌, ◌∷◌, ◌≡◌, ◌≢◌, ◌≤◌}
+pub use Rattle.std.proofs.Common.{Bool, List, [], ap, append-nil, append_assoc, arith, cond, decimal, drop, false, filter, get_or, inl, inr, length, length-take, map, min, not, of_calls, refl, rules, set, subst, suc, sym, take, true, zero, ℕ, ⊎_elim, ◌&&◌, ◌%◌, ◌*◌, ◌++◌, ◌+◌, ◌-◌, ◌/◌, ◌<◌, ◌==◌, ◌^◌, ◌||◌, ◌↔◌, ◌∙◌, ◌∷◌, ◌≡◌, ◌≢◌, ◌≤◌}
 pub use Rattle.std.proofs.KnownBytes.{Appends-trans}
 pub use Rattle.std.proofs.Math.Dec.{eqb-suc-zero}
 pub use Rattle.std.proofs.Math.Nat.{div-mul-le_self, le-div_iff_mul-le, lt-div-mul-add, min-eq_left, min-eq_right, zero-div}

@@ -10,6 +10,7 @@ use Rattle.options.specs.declared.items.Item.{Item}
 use Rattle.options.specs.declared.items.Mode.TheVariants as modes
 use Rattle.options.specs.declared.table.Row.{Row}
 use Rattle.options.specs.declared.table.Table.{Table}
+use Rattle.cidr_merge.specs.Bounds.{bound_of}
 use Rattle.cidr_merge.specs.NamedLists.{lists_of}
 use Rattle.cidr_merge.specs.RightWords.{are_wrong, from_of}
 use Rattle.cidr_merge.specs.Forms.{form_of, shape_of, length_of, most_of}
@@ -26,6 +27,7 @@ use Rattle.cidr_merge.specs.declared.command_line.Inspection.{Inspection}
 use Rattle.cidr_merge.specs.declared.command_line.Inspection.TheVariants as inspections
 use Rattle.cidr_merge.specs.declared.command_line.Operation.{Operation}
 use Rattle.cidr_merge.specs.declared.command_line.Operation.TheVariants as operations
+use Rattle.cidr_merge.specs.declared.command_line.ReduceRequest.{ReduceRequest}
 use Rattle.cidr_merge.specs.declared.command_line.Request.{Request}
 use Rattle.cidr_merge.specs.declared.exports.Export.TheVariants.{Addresses}
 use Rattle.cidr_merge.specs.declared.tasks.Task.{Task}
@@ -39,6 +41,16 @@ request_of operation usual items middle = record {
   skips_bad = is_given items own.skip_bad;
   shape = shape_of items;
   middle = middle;
+}
+
+-- the reduction that these options ask for: with `--most`, of lists of one family
+abbrev pub reduction_of : List Item → ℕ → ReduceRequest
+reduction_of items middle = record {
+  v4 = most_of items own.ipv4;
+  v6 = most_of items own.ipv6;
+  is_of_one = is_given items own.most;
+  bound = bound_of items;
+  merge = request_of operations.Union Blocks items middle;
 }
 
 -- the inspection that a `check` makes, strict or not
@@ -55,8 +67,7 @@ asked_for tasks.Split items middle = commands.Split
       skips_bad = is_given items own.skip_bad;
       shape = shape_of items;
     })
-asked_for tasks.Reduce items middle = commands.Reduce
-    (record { most = most_of items; merge = request_of operations.Union Blocks items middle })
+asked_for tasks.Reduce items middle = commands.Reduce (reduction_of items middle)
 asked_for tasks.Check items middle = commands.Inspect (inspection_of (is_given items own.strict))
 asked_for tasks.Overlaps items middle = commands.Inspect inspections.Overlaps
 asked_for tasks.Find items middle = commands.Find middle (length (from_of tasks.Find items))

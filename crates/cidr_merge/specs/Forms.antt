@@ -59,6 +59,8 @@ not_zero (Some (suc less)) = Some (suc less)
 abbrev pub most_in : List ℕ → Option ℕ
 most_in text = not_zero (number_in text)
 
--- the greatest number of networks of a `reduce`: 1 if no option gives one
-abbrev pub most_of : List Item → ℕ
-most_of items = unwrap_or (most_in (value_of items own.most)) 1
+-- the greatest number of networks of a family, whose option has this row, after a `reduce`: that of `--most` if it has
+-- none of its own, and 0 if no option gives one
+abbrev pub most_of : List Item → ℕ → ℕ
+most_of items row =
+    unwrap_or (most_in (value_of items row)) (unwrap_or (most_in (value_of items own.most)) 0)

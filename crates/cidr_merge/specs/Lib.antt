@@ -1,5 +1,6 @@
 -- The definitions that the contracts of this crate use.
 pub mod Answers
+pub mod Bounds
 pub mod CommandLines
 pub mod Endings
 pub mod Exports

@@ -52,6 +52,15 @@ most = 13
 abbrev pub maxelem : ℕ
 maxelem = 14
 
+abbrev pub ipv4 : ℕ
+ipv4 = 15
+
+abbrev pub ipv6 : ℕ
+ipv6 = 16
+
+abbrev pub max_others : ℕ
+max_others = 17
+
 -- the options, in the order of their rows
 abbrev pub entries : List Entry
 entries =
@@ -60,14 +69,17 @@ entries =
     ∷ long (codes "--set") kinds.Text true ∷ long (codes "--table") kinds.Text true
     ∷ long (codes "--line-prefix") kinds.Text true ∷ long (codes "--line-suffix") kinds.Text true
     ∷ long (codes "--prefix") kinds.Text true ∷ long (codes "--from") kinds.File true ∷ valued (codes "e") kinds.Text
-    ∷ long (codes "--most") kinds.Number true ∷ long (codes "--maxelem") kinds.Number true ∷ alone (codes "--help")
-    ∷ alone (codes "--version") ∷ alone (codes "--quiet") ∷ []
+    ∷ long (codes "--most") kinds.Number true ∷ long (codes "--maxelem") kinds.Number true
+    ∷ long (codes "--ipv4") kinds.Number true ∷ long (codes "--ipv6") kinds.Number true
+    ∷ long (codes "--max-others") kinds.Text true ∷ alone (codes "--help") ∷ alone (codes "--version") ∷ alone (codes "--quiet") ∷ []
 
--- the pairs of options that exclude each other: two output forms, or an option with a value given twice
+-- the pairs of options that exclude each other: two output forms, a number for one family and one for each, or an option
+-- with a value given twice
 abbrev pub pairs : List (ℕ × ℕ)
 pairs =
     (ranges, count) ∷ (format, format) ∷ (format, ranges) ∷ (format, count) ∷ (prefix, prefix) ∷ (set, set)
-    ∷ (table, table) ∷ (before, before) ∷ (after, after) ∷ (from, from) ∷ (most, most) ∷ (maxelem, maxelem) ∷ []
+    ∷ (table, table) ∷ (before, before) ∷ (after, after) ∷ (from, from) ∷ (most, most) ∷ (maxelem, maxelem)
+    ∷ (most, ipv4) ∷ (most, ipv6) ∷ (ipv4, ipv4) ∷ (ipv6, ipv6) ∷ (max_others, max_others) ∷ []
 
 -- the table has these options and pairs
 abbrev pub IsOptions : Table → Type 0
@@ -82,7 +94,7 @@ taken tasks.List =
 taken tasks.Split = text ∷ prefix ∷ before ∷ after ∷ skip_bad ∷ json ∷ strict ∷ []
 taken tasks.Reduce =
     text ∷ ranges ∷ count ∷ format ∷ set ∷ table ∷ maxelem ∷ before ∷ after ∷ skip_bad ∷ json ∷ strict ∷ most
-    ∷ []
+    ∷ ipv4 ∷ ipv6 ∷ max_others ∷ []
 taken tasks.Check = text ∷ strict ∷ []
 taken tasks.Overlaps = text ∷ []
 taken tasks.Find = text ∷ from ∷ []

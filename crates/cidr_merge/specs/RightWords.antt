@@ -8,6 +8,7 @@ use Rattle.options.specs.Given.{is_given, value_of}
 use Rattle.options.specs.declared.items.Item.{Item}
 use Rattle.options.specs.declared.items.Item.TheVariants as says
 use Rattle.options.specs.declared.table.Table.{Table}
+use Rattle.cidr_merge.specs.Bounds.{bound_in}
 use Rattle.cidr_merge.specs.Forms.{form_called, form_of, most_in, prefix_in}
 use Rattle.cidr_merge.specs.NamedLists.{file_name}
 use Rattle.cidr_merge.specs.Options as own
@@ -32,7 +33,8 @@ abbrev pub is_value : ℕ → List ℕ → Bool
 is_value row text =
     if row == own.format then is_some (form_called text)
     else if row == own.prefix then is_some (prefix_in text)
-    else if row == own.most then is_some (most_in text)
+    else if (row == own.most || row == own.ipv4) || row == own.ipv6 then is_some (most_in text)
+    else if row == own.max_others then is_some (bound_in text)
     else if row == own.set || row == own.table then is_set_name text
     else if row == own.maxelem then is_limit text
     else if row == own.from || row == own.text then not (length text == 0)
@@ -51,10 +53,14 @@ is_wrong task (says.Lacks row) = true
 abbrev pub lacks_json : Task → List Item → Bool
 lacks_json task items = takes task own.json && is_given items own.strict && not (is_given items own.json)
 
+-- whether a number of networks is given
+abbrev pub has_count : List Item → Bool
+has_count items = (is_given items own.most || is_given items own.ipv4) || is_given items own.ipv6
+
 -- whether a `split` has no prefix length, or a `reduce` no number of networks
 abbrev pub lacks_value : Task → List Item → Bool
 lacks_value tasks.Split items = not (is_given items own.prefix)
-lacks_value tasks.Reduce items = not (is_given items own.most)
+lacks_value tasks.Reduce items = not (has_count items)
 lacks_value task items = false
 
 -- the forms that other programs read, which cannot show the two sides of a `differ`

@@ -4,14 +4,16 @@ ghost use Rattle.std.specs.List.{list_any};
 ghost use Rattle.std.specs.String.{string_bytes};
 ghost use Rattle.cidr_merge.specs.RightWords.{takes, is_value, is_wrong, lacks_json, lacks_value};
 ghost use Rattle.cidr_merge.specs.RightWords.{cannot_print, has_sets, has_table, has_limit};
-ghost use Rattle.cidr_merge.specs.RightWords.{has_lines, are_misplaced, do_clash};
+ghost use Rattle.cidr_merge.specs.RightWords.{has_count, has_lines, are_misplaced, do_clash};
 ghost use Rattle.cidr_merge.specs.RightWords.{are_wrong_sides, are_wrong_files, files_among};
 ghost use Rattle.cidr_merge.specs.RightWords.{from_of, are_wrong};
 
+use crate::bounds::bound_in;
 use crate::command_line::{Form, Operation, form_called, form_of, most_in, prefix_in};
 use crate::exports::Export;
 use crate::rows::{
-    AFTER, BEFORE, FORMAT, FROM, JSON, MAXELEM, MOST, PREFIX, SET, STRICT, TABLE, TEXT, taken,
+    AFTER, BEFORE, FORMAT, FROM, IPV4, IPV6, JSON, MAX_OTHERS, MAXELEM, MOST, PREFIX, SET, STRICT,
+    TABLE, TEXT, taken,
 };
 use crate::set_names::{is_limit, is_set_name};
 use crate::tasks::{ONE_SIDE, Task, is_two_sided, no_first, no_option};
@@ -72,7 +74,8 @@ fn is_value(row: usize, text: &str) -> bool
     match row {
         FORMAT => form_called(text).is_some(),
         PREFIX => prefix_in(text).is_some(),
-        MOST => most_in(text).is_some(),
+        MOST | IPV4 | IPV6 => most_in(text).is_some(),
+        MAX_OTHERS => bound_in(text).is_some(),
         SET | TABLE => is_set_name(text),
         MAXELEM => is_limit(text),
         FROM | TEXT => !text.is_empty(),
@@ -130,6 +133,13 @@ fn lacks_json(task: Task, items: &[Item<'_>]) -> bool
     takes(task, JSON) && is_given(items, STRICT) && !is_given(items, JSON)
 }
 
+// Whether a number of networks is given.
+fn has_count(items: &[Item<'_>]) -> bool
+    ensures { result ≡ has_count items.now }
+{
+    is_given(items, MOST) || is_given(items, IPV4) || is_given(items, IPV6)
+}
+
 // The fault if a `split` has no prefix length, or a `reduce` no number of networks.
 fn lacks_fault<'a>(task: Task, items: &[Item<'_>]) -> Option<Fault<'a>>
     ensures { is_some result ≡ lacks_value task items.now }
@@ -138,10 +148,10 @@ fn lacks_fault<'a>(task: Task, items: &[Item<'_>]) -> Option<Fault<'a>>
         Task::Split if !is_given(items, PREFIX) => {
             Some(about(Subject::CommandLine, "split: no --prefix N"))
         }
-        Task::Reduce if !is_given(items, MOST) => {
+        Task::Reduce if !has_count(items) => {
             Some(about(
                 Subject::CommandLine,
-                "reduce: no number behind it, and no --most N",
+                "reduce: no number behind it, and no --most N, --ipv4 N or --ipv6 N",
             ))
         }
         _ => None,

@@ -2,6 +2,7 @@
 #![tactic(auto)]
 
 mod addresses;
+mod bounds;
 mod checking;
 mod command_line;
 mod context;

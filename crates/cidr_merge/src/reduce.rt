@@ -1,7 +1,11 @@
 //! Prints at most a given number of networks that have all addresses of lists.
-ghost use Rattle.std.specs.Prelude.{map};
+ghost use Rattle.std.specs.Prelude.{◌≡◌, ◌&&◌, IfOk, map, nat_le};
+ghost use Rattle.std.specs.Option.{is_some};
+ghost use Rattle.cidr_merge.specs.Exports.{is_any};
 ghost use Rattle.cidr_merge.specs.Reductions.{EndsReducing, EndsJoining, EndsJoined};
+ghost use Rattle.cidr_merge.specs.Reductions.{IsReduced, lacks_number};
 
+use crate::bounds::{Bound, allowed};
 use crate::command_line::ReduceRequest;
 use crate::context::Context;
 use crate::help::PROGRAM;
@@ -12,6 +16,7 @@ use crate::set_names::SetNames;
 use arrayvec::ArrayString;
 use ipnetwork::{Ipv4Network, Ipv6Network};
 use ipnetwork_addr::decimal::push_number;
+use ipnetwork_blocks::AddressSpace;
 use ipnetwork_sets::AddressSet;
 use lines::output::Output;
 use lists::{OpenLists, Refusals};
@@ -19,7 +24,7 @@ use program::ending::FAILED;
 use program::memory::refuse_memory;
 use program::messages::{tell, tell_of};
 use program::telling::{InLists, tell_refusals};
-use reducing::Reduced;
+use std::alloc::{AllocError, Global};
 use std::io::Write;
 
 /// Reads the lists, prints networks that have all their addresses, and returns the exit status.
@@ -42,7 +47,8 @@ pub(crate) fn reduce<L: OpenLists, W: Write, E: Write>(
     }
 }
 
-// Joins networks, unless lines were refused that are not to be skipped, and prints what is left.
+// Joins the networks of each family, unless lines were refused that are not to be skipped or a
+// family has no number, and prints what is left.
 fn join<L: OpenLists, W: Write, E: Write>(
     request: ReduceRequest,
     context: &Context<'_, L>,
@@ -56,38 +62,107 @@ fn join<L: OpenLists, W: Write, E: Write>(
     if skips && !request.merge.skips_bad {
         return FAILED;
     }
-    match reducing::reduce(context.alloc, sets.v4, sets.v6, request.most) {
-        Ok(reduced) => print_reduced(request, context.sets, skips, reduced, output, errors),
+    if let Some(problem) = number_lacking(&request, &sets) {
+        tell_of(PROGRAM, problem, errors);
+        return FAILED;
+    }
+    match reduce_both(context.alloc, &request, sets) {
+        Ok((v4, v6)) => print_reduced(request, context.sets, skips, v4, v6, output, errors),
         Err(_) => refuse_memory(PROGRAM, errors),
     }
 }
 
-// The message for a list of both families that is to have one network.
-const BOTH_FAMILIES: &str = ": --most: 1: the FILEs have addresses of both families\n";
+// The message for a family of the lists that has no number, if there is one.
+fn number_lacking(request: &ReduceRequest, sets: &Sets) -> Option<&'static str>
+    ensures { is_some result ≡ lacks_number request.now sets.now }
+{
+    let (v4, v6) = (is_any(&sets.v4), is_any(&sets.v6));
+    if request.is_of_one && v4 && v6 {
+        Some(": the FILEs have addresses of both families: reduce each, with --ipv4 N --ipv6 N\n")
+    } else if request.v4 == 0 && v4 {
+        Some(": the FILEs have addresses of IPv4, too: add --ipv4 N\n")
+    } else if request.v6 == 0 && v6 {
+        Some(": the FILEs have addresses of IPv6, too: add --ipv6 N\n")
+    } else {
+        None
+    }
+}
+
+// Whether a set has addresses.
+fn is_any<N: AddressSpace>(set: &AddressSet<N>) -> bool
+    ensures { result ≡ is_any set.now }
+{
+    !set.is_empty()
+}
+
+// A reduced list of a family, how many other addresses it has, and how many it may have.
+#[derive(Drop)]
+struct Reduced<N> {
+    blocks: Vec<N>,
+    others: u128,
+    allowed: u128,
+}
+
+// Reduces the lists of both families.
+fn reduce_both(
+    alloc: Global,
+    request: &ReduceRequest,
+    sets: Sets,
+) -> Result<(Reduced<Ipv4Network>, Reduced<Ipv6Network>), AllocError>
+    ensures v4 { IfOk result (λ both. IsReduced 32 request.now.v4 request.now.bound sets.v4
+        (map (λ network. network) both.0.blocks.items) (nat_le both.0.others both.0.allowed)) }
+    ensures v6 { IfOk result (λ both. IsReduced 128 request.now.v6 request.now.bound sets.v6
+        (map (λ network. network) both.1.blocks.items) (nat_le both.1.others both.1.allowed)) }
+{
+    let v4 = reduce_one(alloc, request.v4, request.bound, sets.v4)?;
+    let v6 = reduce_one(alloc, request.v6, request.bound, sets.v6)?;
+    Ok((v4, v6))
+}
+
+// Reduces the list of a family.
+fn reduce_one<N: AddressSpace>(
+    alloc: Global,
+    most: usize,
+    bound: Bound,
+    set: AddressSet<N>,
+) -> Result<Reduced<N>, AllocError>
+    ensures { IfOk result (λ all. IsReduced N.WIDTH most bound set (map N.pair all.blocks.items)
+        (nat_le all.others all.allowed)) }
+{
+    let allowed = allowed(bound, set.address_count());
+    let reduced = reducing::reduce(alloc, set, most)?;
+    Ok(Reduced {
+        blocks: reduced.blocks,
+        others: reduced.others,
+        allowed,
+    })
+}
 
 // Reports how many other addresses the networks have, and prints the least list with the same
-// addresses, unless there are too many networks.
+// addresses, unless a family has too many others.
 fn print_reduced<W: Write, E: Write>(
     request: ReduceRequest,
     names: &SetNames<'_>,
     skips: bool,
-    reduced: Reduced<Ipv4Network, Ipv6Network>,
+    v4: Reduced<Ipv4Network>,
+    v6: Reduced<Ipv6Network>,
     output: &mut Output<'_, W>,
     errors: &mut Output<'_, E>,
 ) -> u8
     ensures { EndsJoined names.now request skips
-        (map (λ network. network) reduced.first.items)
-        (map (λ network. network) reduced.second.items) output.old output.new result }
+        (map (λ network. network) v4.blocks.items) (map (λ network. network) v6.blocks.items)
+        (nat_le v4.others v4.allowed && nat_le v6.others v6.allowed)
+        output.old output.new result }
 {
-    let (v4, v6) = (reduced.first.len(), reduced.second.len());
-    if v4 > request.most || v6 > request.most - v4 {
-        tell_of(PROGRAM, BOTH_FAMILIES, errors);
+    if v4.others > v4.allowed || v6.others > v6.allowed {
+        tell_too_many("IPv4", v4.others, v4.allowed, errors);
+        tell_too_many("IPv6", v6.others, v6.allowed, errors);
         return FAILED;
     }
-    tell_others(PROGRAM, reduced.first_others, reduced.second_others, errors);
+    tell_others(v4.others, v6.others, errors);
     let left = Sets {
-        v4: AddressSet::from_networks(reduced.first),
-        v6: AddressSet::from_networks(reduced.second),
+        v4: AddressSet::from_networks(v4.blocks),
+        v6: AddressSet::from_networks(v6.blocks),
     };
     let merging = Merging {
         request: request.merge,
@@ -98,19 +173,50 @@ fn print_reduced<W: Write, E: Write>(
     answer(&merging, skips, output, errors)
 }
 
-// Reports in the name of a program how many addresses its networks of each family have that the
-// lists have not.
-fn tell_others<E: Write>(program: &str, v4: u128, v6: u128, errors: &mut Output<'_, E>) {
-    tell_of(program, ": ", errors);
+// Reports that a family has more other addresses than are allowed, if it has.
+fn tell_too_many<E: Write>(family: &str, others: u128, allowed: u128, errors: &mut Output<'_, E>) {
+    if others <= allowed {
+        return;
+    }
+    tell_of(PROGRAM, ": ", errors);
+    tell_count(others, errors);
+    tell(" other addresses of ", errors);
+    tell(family, errors);
+    tell(" are more than ", errors);
+    tell_count(allowed, errors);
+    tell(": see --max-others\n", errors);
+}
+
+// Reports how many addresses the networks of each family have that the lists have not.
+fn tell_others<E: Write>(v4: u128, v6: u128, errors: &mut Output<'_, E>) {
+    tell_of(PROGRAM, ": ", errors);
     tell_count(v4, errors);
     tell(" other addresses of IPv4, ", errors);
     tell_count(v6, errors);
     tell(" of IPv6\n", errors);
 }
 
-// Reports a number.
+// Reports a number, with a comma before each three digits that others precede.
 fn tell_count<E: Write>(count: u128, errors: &mut Output<'_, E>) {
+    if count < 1000 {
+        return tell_number(count, errors);
+    }
+    tell_count(count / 1000, errors);
+    let three = count % 1000;
+    let zeros = if three < 10 {
+        ",00"
+    } else if three < 100 {
+        ",0"
+    } else {
+        ","
+    };
+    tell(zeros, errors);
+    tell_number(three, errors);
+}
+
+// Reports a number.
+fn tell_number<E: Write>(number: u128, errors: &mut Output<'_, E>) {
     let mut text = ArrayString::<40>::new();
-    push_number(&mut text, count);
+    push_number(&mut text, number);
     tell(text.as_str(), errors);
 }

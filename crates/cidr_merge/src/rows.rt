@@ -50,8 +50,17 @@ pub(crate) const MOST: usize = 13;
 /// The row of `--maxelem`.
 pub(crate) const MAXELEM: usize = 14;
 
+/// The row of `--ipv4`.
+pub(crate) const IPV4: usize = 15;
+
+/// The row of `--ipv6`.
+pub(crate) const IPV6: usize = 16;
+
+/// The row of `--max-others`.
+pub(crate) const MAX_OTHERS: usize = 17;
+
 // The options.
-const ROWS: [Row; 18] = [
+const ROWS: [Row; 21] = [
     long!("--ranges", Flag, false, ""),
     long!("--count", Flag, false, ""),
     long!(
@@ -71,12 +80,20 @@ const ROWS: [Row; 18] = [
     long!("--prefix", Text, true, "not a prefix length, 0 to 128"),
     long!("--from", File, true, "not a file name"),
     letter!(b'e', Text, "not a network or range"),
-    long!("--most", Number, true, "not a number from 1"),
+    long!("--most", Number, true, NO_COUNT),
     long!(
         "--maxelem",
         Number,
         true,
         "not a number from 1 to 4294967295"
+    ),
+    long!("--ipv4", Number, true, NO_COUNT),
+    long!("--ipv6", Number, true, NO_COUNT),
+    long!(
+        "--max-others",
+        Text,
+        true,
+        "not a number, a number with a % behind it, or any"
     ),
     long!("--help", Alone, false, "not the only argument"),
     long!("--version", Alone, false, "not the only argument"),
@@ -91,11 +108,17 @@ const ROWS: [Row; 18] = [
 // The message for a value of `--set` or `--table` that is not a name.
 const NO_NAME: &str = "not a name of 1 to 22 letters, digits, _, - and ., the first a letter";
 
+// The message for a value of `--most`, `--ipv4` or `--ipv6` that is not a number from 1.
+const NO_COUNT: &str = "not a number from 1";
+
+// The message for `--most` together with the number of a family.
+const TWO_COUNTS: &str = "--most: not together with --ipv4 or --ipv6";
+
 // The message for `--format` together with another option for the output form.
 const ANOTHER_FORM: &str = "--format: given twice, or together with --ranges or --count";
 
 // The pairs of options that exclude each other.
-const PAIRS: [Pair; 12] = [
+const PAIRS: [Pair; 17] = [
     pair!(RANGES, COUNT, "--ranges: not together with --count"),
     pair!(FORMAT, FORMAT, ANOTHER_FORM),
     pair!(FORMAT, RANGES, ANOTHER_FORM),
@@ -108,6 +131,11 @@ const PAIRS: [Pair; 12] = [
     pair!(FROM, FROM, "--from: given twice"),
     pair!(MOST, MOST, "--most: given twice"),
     pair!(MAXELEM, MAXELEM, "--maxelem: given twice"),
+    pair!(MOST, IPV4, TWO_COUNTS),
+    pair!(MOST, IPV6, TWO_COUNTS),
+    pair!(IPV4, IPV4, "--ipv4: given twice"),
+    pair!(IPV6, IPV6, "--ipv6: given twice"),
+    pair!(MAX_OTHERS, MAX_OTHERS, "--max-others: given twice"),
 ];
 
 /// The options.
@@ -129,8 +157,9 @@ const OF_MERGES: [usize; 12] = [
 
 const OF_SPLIT: [usize; 7] = [TEXT, PREFIX, BEFORE, AFTER, SKIP_BAD, JSON, STRICT];
 
-const OF_REDUCE: [usize; 13] = [
+const OF_REDUCE: [usize; 16] = [
     TEXT, RANGES, COUNT, FORMAT, SET, TABLE, MAXELEM, BEFORE, AFTER, SKIP_BAD, JSON, STRICT, MOST,
+    IPV4, IPV6, MAX_OTHERS,
 ];
 
 const OF_CHECK: [usize; 2] = [TEXT, STRICT];

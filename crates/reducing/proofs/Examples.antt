@@ -1,5 +1,5 @@
 -- Joins, computed.
-use Rattle.reducing.proofs.Words.{◌≡◌, ℕ, ◌-◌, ◌^◌, ◌∷◌, [], List, inl, refl, arith, Network, shared, joined, others, Joins, Becomes, Reduces, Same, InFirst, InSecond}
+use Rattle.reducing.proofs.Words.{◌≡◌, ℕ, ◌-◌, ◌^◌, ◌∷◌, [], List, inl, inr, refl, arith, Network, shared, joined, others, Joins, Reduces, Joined, Same}
 
 net : ℕ → ℕ → Network
 net address prefix = record { address = address; prefix = prefix }
@@ -72,43 +72,22 @@ joins_the_halves = record {
   first = tt;
 }
 
--- with one IPv6 block, which has no neighbour, until two blocks are left
-both_families : Becomes 32 128 2 three (net 0 128 ∷ []) (net 0 29 ∷ []) (net 0 128 ∷ []) 2 0
+-- joins go on until two blocks are left, or one, and no further
+two_are_left : Reduces 32 2 three (net 0 30 ∷ net 4 30 ∷ []) 2
 unfolding three
-both_families = InFirst (InFirst Same (omega arith) makes_a_half tt) (omega arith) joins_the_halves tt
+two_are_left = record { becomes = Joined Same (omega arith) makes_a_half; done = inl (omega arith) }
 
--- of two families with pairs of two others the first is joined, and no more if so many blocks may be left
-pair : List Network
-pair = net 0 32 ∷ net 3 32 ∷ []
+one_is_left : Reduces 32 1 three (net 0 29 ∷ []) 2
+unfolding three
+one_is_left =
+    record {
+      becomes = Joined (Joined Same (omega arith) makes_a_half) (omega arith) joins_the_halves;
+      done = inl (omega arith);
+    }
 
-pair6 : List Network
-pair6 = net 0 128 ∷ net 3 128 ∷ []
+one_is_left_of_none : Reduces 32 0 (net 0 30 ∷ []) (net 0 30 ∷ []) 0
+one_is_left_of_none = record { becomes = Same; done = inr (omega arith) }
 
-pair_is_joined : Joins 32 pair (net 0 30 ∷ []) 2
-unfolding pair others joined shared net
-pair_is_joined = record {
-  before = [];
-  a = net 0 32;
-  b = net 3 32;
-  behind = [];
-  list_is = refl;
-  next_is = refl;
-  others_are = refl;
-  least = (omega arith, tt);
-  first = tt;
-}
-
-the_first_of_two_families : Reduces 32 128 3 pair pair6 (net 0 30 ∷ []) pair6 2 0
-unfolding pair pair6 others joined shared net
-the_first_of_two_families =
-    record { becomes = InFirst Same (omega arith) pair_is_joined (omega arith, tt); done = inl (omega arith) }
-
-as_many_as_may_be_left : Reduces 32 128 4 pair pair6 pair pair6 0 0
-unfolding pair pair6
+as_many_as_may_be_left : Reduces 32 3 three three 0
+unfolding three
 as_many_as_may_be_left = record { becomes = Same; done = inl (omega arith) }
-
--- the second family has a pair with fewer others
-joined_in_the_second : Becomes 128 32 3 (net 0 128 ∷ net 4 128 ∷ []) pair (net 0 128 ∷ net 4 128 ∷ [])
-    (net 0 30 ∷ []) 0 2
-unfolding pair others joined shared net
-joined_in_the_second = InSecond Same (omega arith) pair_is_joined (omega arith, tt)

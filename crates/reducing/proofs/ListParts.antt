@@ -1,7 +1,7 @@
 -- The least number of others in lists that are put together.
 use Rattle.reducing.proofs.Words.{◌≡◌, ℕ, ◌-◌, ◌^◌, ◌<◌, ◌≤◌, ◌⊎◌, ◌++◌, ◌∷◌, [], List, length, min, refl, sym, ap, subst, ◌∙◌, append_assoc, arith, ⊎_elim, inl, inr, Option, Some, None, pow-le-pow_right, Network, block_size, size_pos, joined, others, AllNeighbours, Joins, no_pair, least, IsSpanOf, IsSpan, DoMeet, IsBetween, JoinsFirst, alone, Span}
 
-pub least_at_most : (w : ℕ) (xs : List Network) → least w xs ≤ no_pair
+least_at_most : (w : ℕ) (xs : List Network) → least w xs ≤ no_pair
 least_at_most w [] = omega arith
 least_at_most w (a ∷ []) = omega arith
 least_at_most w (a ∷ b ∷ xs) = omega (arith, least_at_most w (b ∷ xs))
@@ -175,12 +175,12 @@ join_in_back w front back next k n between more more_front j = record {
 
 -- ---- pairs that have more others
 
-pub all_above : (w k : ℕ) (xs : List Network) → k ≤ least w xs → AllNeighbours (λ c d. k ≤ others w c d) xs
+all_above : (w k : ℕ) (xs : List Network) → k ≤ least w xs → AllNeighbours (λ c d. k ≤ others w c d) xs
 all_above w k [] h = tt
 all_above w k (a ∷ []) h = tt
 all_above w k (a ∷ b ∷ xs) h = (omega arith, all_above w k (b ∷ xs) (omega arith))
 
-pub all_more : (w k : ℕ) (xs : List Network) → k < least w xs → AllNeighbours (λ c d. k < others w c d) xs
+all_more : (w k : ℕ) (xs : List Network) → k < least w xs → AllNeighbours (λ c d. k < others w c d) xs
 all_more w k [] h = tt
 all_more w k (a ∷ []) h = tt
 all_more w k (a ∷ b ∷ xs) h = (omega arith, all_more w k (b ∷ xs) (omega arith))

@@ -1,5 +1,5 @@
 -- Lists of blocks in ascending order that share no address, and how many addresses they have.
-use Rattle.reducing.proofs.Words.{◌≡◌, ℕ, suc, ◌+◌, ◌^◌, ◌<◌, ◌≤◌, ◌++◌, ◌∷◌, [], List, length, refl, sym, ap, subst, ◌∙◌, append_assoc, arith, pow-le-pow_right, AllPairs, Contains, contains_head, contains_tail, Network, IsCidrBlock, high, size_pos, high_fits, total, joined, others, AllNeighbours, Joins, Becomes, Same, InFirst, InSecond}
+use Rattle.reducing.proofs.Words.{◌≡◌, ℕ, suc, ◌+◌, ◌^◌, ◌<◌, ◌≤◌, ◌++◌, ◌∷◌, [], List, length, refl, sym, ap, subst, ◌∙◌, append_assoc, arith, pow-le-pow_right, AllPairs, Contains, contains_head, contains_tail, Network, IsCidrBlock, high, size_pos, high_fits, total, joined, others, AllNeighbours, Joins, Becomes, Same, Joined}
 use Rattle.reducing.proofs.Halves.{end_of, IsPair, is_pair, none_before, none_behind, others_add_up}
 
 abbrev pub IsRow : ℕ → List Network → Type 0
@@ -158,17 +158,11 @@ one_added w xs us next j n h join = record {
   blocks = omega (arith, h.blocks, joined_length w us next n join);
 }
 
-pub adds_up : (w v most : ℕ) (xs ys : List Network) → IsRow w xs → IsRow v ys → (us vs : List Network) (j k : ℕ)
-    → Becomes w v most xs ys us vs j k → AddsUp w xs us j × AddsUp v ys vs k
-adds_up w v most xs ys hx hy us vs j k Same = (nothing_added w xs hx, nothing_added v ys hy)
-adds_up w v most xs ys hx hy us vs j k
-    (InFirst {us = u} {vs = z} {next = next} {j = i} {k = l} {n = n} before many join few) =
-    let h = adds_up w v most xs ys hx hy u z i l before in
-    (one_added w xs u next i n h.0 join, h.1)
-adds_up w v most xs ys hx hy us vs j k
-    (InSecond {us = u} {vs = z} {next = next} {j = i} {k = l} {n = n} before many join few) =
-    let h = adds_up w v most xs ys hx hy u z i l before in
-    (h.0, one_added v ys z next l n h.1 join)
+pub adds_up : (w most : ℕ) (xs : List Network) → IsRow w xs → (us : List Network) (k : ℕ) → Becomes w most xs us k
+    → AddsUp w xs us k
+adds_up w most xs row us k Same = nothing_added w xs row
+adds_up w most xs row us k (Joined {us = u} {next = next} {k = i} {n = n} before many join) =
+    one_added w xs u next i n (adds_up w most xs row u i before) join
 
 -- the others that one more join adds can be counted with 128 bits
 pub sum_fits : (w : ℕ) (xs us next : List Network) (j n : ℕ) → w ≤ 128 → AddsUp w xs us j → Joins w us next n

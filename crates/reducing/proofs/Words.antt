@@ -17,7 +17,7 @@ pub use Rattle.reducing.specs.Private.ListParts.{DoMeet, IsBetween, IsSpan, IsSp
 unfoldable pub use Rattle.reducing.specs.Private.Trees.{IsTreeTo}
 pub use Rattle.reducing.specs.Private.Trees.{IsRoot, IsTaken, IsTree, alone, blocks}
 pub use Rattle.reducing.specs.Reducing.{AllNeighbours, Becomes, Joins, Reduces}
-pub use Rattle.reducing.specs.Reducing.Becomes.{InFirst, InSecond, Same}
+pub use Rattle.reducing.specs.Reducing.Becomes.{Joined, Same}
 pub use Rattle.reducing.specs.declared.span.Span.{Span}
 pub use Rattle.reducing.specs.declared.tree.End.TheVariants.{First, Last}
 pub use Rattle.reducing.specs.declared.tree.Node.{Node}

@@ -1,5 +1,4 @@
-//! Lists of at most a given number of blocks, or of at most one each, that have all the addresses
-//! of two sets, and few others.
+//! Lists of at most a given number of blocks that have all the addresses of a set, and few others.
 #![tactic(auto)]
 
 mod joining;

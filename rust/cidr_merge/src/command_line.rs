@@ -4,11 +4,15 @@
 
 use fosibegan_core::plain_std::vec::Vec;
 use fosibegan_core::plain_std::string::String;
+use crate::bounds::{Bound, bound_in};
 use crate::dashes::{before_dashes, behind_dashes};
 use crate::exports::Export;
 use crate::faults::{fault_of, from_count, no_task_fault};
 use crate::named_lists::{add_file, lists_of};
-use crate::rows::{COUNT, FORMAT, FROM, JSON, MOST, PREFIX, RANGES, SKIP_BAD, STRICT, table};
+use crate::rows::{
+    COUNT, FORMAT, FROM, IPV4, IPV6, JSON, MAX_OTHERS, MOST, PREFIX, RANGES, SKIP_BAD, STRICT,
+    table,
+};
 use crate::set_names::{SetNames, names_of};
 use crate::shapes::Shape;
 use crate::tasks::{Task, task_called};
@@ -76,8 +80,14 @@ pub struct SplitRequest {
 /// How lists are reduced.
 #[derive(Clone, Copy, Debug, PartialEq, Eq)]
 pub struct ReduceRequest {
-    /// The greatest number of networks that are printed.
-    pub most: usize,
+    /// The greatest number of networks of IPv4; 0 if none is given.
+    pub v4: usize,
+    /// The greatest number of networks of IPv6; 0 if none is given.
+    pub v6: usize,
+    /// Whether the lists may have only one family, which has these numbers.
+    pub is_of_one: bool,
+    /// How many other addresses each family may have.
+    pub bound: Bound,
     /// The union of which they have all addresses, and how it is printed.
     pub merge: Request,
 }
@@ -189,10 +199,7 @@ fn asked_for(task: Task, items: &[Item<'_>], middle: usize) -> Command {
             skips_bad: is_given(items, SKIP_BAD),
             shape: shape_of(items),
         }),
-        Task::Reduce => Command::Reduce(ReduceRequest {
-            most: most_of(items),
-            merge: request_of(Operation::Union, Form::Blocks, items, middle),
-        }),
+        Task::Reduce => Command::Reduce(reduction_of(items, middle)),
         Task::Check => Command::Inspect(inspection_of(is_given(items, STRICT))),
         Task::Overlaps => Command::Inspect(Inspection::Overlaps),
         Task::Find => Command::Find(middle, from_count(task, items)),
@@ -207,6 +214,17 @@ fn request_of(operation: Operation, usual: Form, items: &[Item<'_>], middle: usi
         skips_bad: is_given(items, SKIP_BAD),
         shape: shape_of(items),
         middle,
+    }
+}
+
+// How lists are reduced by these options.
+fn reduction_of(items: &[Item<'_>], middle: usize) -> ReduceRequest {
+    ReduceRequest {
+        v4: most_of(items, IPV4),
+        v6: most_of(items, IPV6),
+        is_of_one: is_given(items, MOST),
+        bound: bound_of(items),
+        merge: request_of(Operation::Union, Form::Blocks, items, middle),
     }
 }
 
@@ -255,9 +273,15 @@ pub(crate) fn prefix_in(text: &str) -> Option<u8> {
     length_in(without_plus(text.as_bytes()), 128)
 }
 
-// The greatest number of networks that are printed.
-fn most_of(items: &[Item<'_>]) -> usize {
-    usize::try_from(most_in(value_of(items, MOST)).unwrap_or(1)).unwrap_or(usize::MAX)
+// The greatest number of networks of the family whose option has this row: 0 if none is given.
+fn most_of(items: &[Item<'_>], row: usize) -> usize {
+    let of_one = most_in(value_of(items, MOST)).unwrap_or(0);
+    most_in(value_of(items, row)).unwrap_or(of_one) as usize
+}
+
+// How many other addresses each family may have: as many as the lists have, if nothing is given.
+fn bound_of(items: &[Item<'_>]) -> Bound {
+    bound_in(value_of(items, MAX_OTHERS)).unwrap_or(Bound::Percent(100))
 }
 
 /// The number from 1 that a text is.

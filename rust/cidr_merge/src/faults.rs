@@ -3,10 +3,12 @@
 //! What is wrong with the words of a command line.
 
 use fosibegan_core::plain_std::string::String;
+use crate::bounds::bound_in;
 use crate::command_line::{Form, Operation, form_called, form_of, most_in, prefix_in};
 use crate::exports::Export;
 use crate::rows::{
-    AFTER, BEFORE, FORMAT, FROM, JSON, MAXELEM, MOST, PREFIX, SET, STRICT, TABLE, TEXT, taken,
+    AFTER, BEFORE, FORMAT, FROM, IPV4, IPV6, JSON, MAX_OTHERS, MAXELEM, MOST, PREFIX, SET, STRICT,
+    TABLE, TEXT, taken,
 };
 use crate::set_names::{is_limit, is_set_name};
 use crate::tasks::{ONE_SIDE, Task, is_two_sided, no_first, no_option};
@@ -61,7 +63,8 @@ fn is_value(row: usize, text: &str) -> bool {
     match row {
         FORMAT => form_called(text).is_some(),
         PREFIX => prefix_in(text).is_some(),
-        MOST => most_in(text).is_some(),
+        MOST | IPV4 | IPV6 => most_in(text).is_some(),
+        MAX_OTHERS => bound_in(text).is_some(),
         SET | TABLE => is_set_name(text),
         MAXELEM => is_limit(text),
         FROM | TEXT => !text.is_empty(),
@@ -111,16 +114,21 @@ fn lacks_json(task: Task, items: &[Item<'_>]) -> bool {
     takes(task, JSON) && is_given(items, STRICT) && !is_given(items, JSON)
 }
 
+// Whether a number of networks is given.
+fn has_count(items: &[Item<'_>]) -> bool {
+    is_given(items, MOST) || is_given(items, IPV4) || is_given(items, IPV6)
+}
+
 // The fault if a `split` has no prefix length, or a `reduce` no number of networks.
 fn lacks_fault<'a>(task: Task, items: &[Item<'_>]) -> Option<Fault<'a>> {
     match task {
         Task::Split if !is_given(items, PREFIX) => {
             Some(about(Subject::CommandLine, "split: no --prefix N"))
         }
-        Task::Reduce if !is_given(items, MOST) => {
+        Task::Reduce if !has_count(items) => {
             Some(about(
                 Subject::CommandLine,
-                "reduce: no number behind it, and no --most N",
+                "reduce: no number behind it, and no --most N, --ipv4 N or --ipv6 N",
             ))
         }
         _ => None,

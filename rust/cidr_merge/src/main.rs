@@ -9,6 +9,7 @@
 use fosibegan_core::plain_std::rt::HostRuntime;
 
 mod addresses;
+mod bounds;
 mod checking;
 mod command_line;
 mod context;

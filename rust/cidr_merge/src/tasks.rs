@@ -61,7 +61,10 @@ pub(crate) fn no_option(task: Task) -> &'static str {
             "not an option of split; it takes -e TEXT, --prefix N, --line-prefix TEXT, \
              --line-suffix TEXT, --skip-bad, --json and --strict"
         }
-        Task::Reduce => "not an option of reduce; it takes --most N and the options of union",
+        Task::Reduce => {
+            "not an option of reduce; it takes --most N, --ipv4 N, --ipv6 N, --max-others N and \
+             the options of union"
+        }
         Task::Check => "not an option of check; it takes -e TEXT and --strict",
         Task::Overlaps => "not an option of overlaps; it takes -e TEXT",
         Task::Find => "not an option of find; it takes -e TEXT and --from FILE",

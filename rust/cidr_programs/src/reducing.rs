@@ -1,7 +1,6 @@
 // Written by scripts/plain out of crates/reducing/src/lib.rt
 
-//! Lists of at most a given number of blocks, or of at most one each, that have all the addresses
-//! of two sets, and few others.
+//! Lists of at most a given number of blocks that have all the addresses of a set, and few others.
 
 mod joining;
 mod reduction;

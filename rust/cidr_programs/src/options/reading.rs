@@ -166,8 +166,8 @@ fn put_value<'a>(
 // Returns the value without the `=` before it, if there is one and more follows.
 fn behind_sign(value: &str) -> &str {
     match value.strip_prefix('=') {
-        Some(rest) if !rest.is_empty() => rest,
-        _ => value,
+        Some(rest) => { if rest.is_empty() { value } else { rest } }
+        None => value,
     }
 }
 

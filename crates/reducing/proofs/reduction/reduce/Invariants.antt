@@ -1,9 +1,8 @@
-use Rattle.reducing.proofs.Known.{◌+◌, length, Becomes}
+use Rattle.reducing.proofs.Known.{length, Becomes}
 use Rattle.reducing.proofs.reduction.reduce.Given as goal
 
-abbrev pub invariant-loop-firsts : goal.invariant-loop-firsts
-invariant-loop-firsts g l = Becomes g.A.CidrNetwork.WIDTH g.B.CidrNetwork.WIDTH l.fn.most l.fn.first l.fn.second
-    l.firsts l.seconds l.first_others l.second_others
+abbrev pub invariant-loop-list : goal.invariant-loop-list
+invariant-loop-list g l = Becomes g.N.CidrNetwork.WIDTH l.fn.most l.fn.set l.list l.others
 
-abbrev pub decreases-loop-firsts : goal.decreases-loop-firsts
-decreases-loop-firsts g l = length l.firsts + length l.seconds
+abbrev pub decreases-loop-list : goal.decreases-loop-list
+decreases-loop-list g l = length l.list

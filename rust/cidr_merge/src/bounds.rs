@@ -1,0 +1,68 @@
+// Written by scripts/plain out of crates/cidr_merge/src/bounds.rt
+
+//! How many other addresses a reduced list may have.
+
+use fosibegan_core::ipnetwork_sets::AddressCount;
+use cidr_programs::line_addresses::is_number;
+
+/// A bound on how many other addresses a family may have.
+#[derive(Clone, Copy, Debug, PartialEq, Eq)]
+pub enum Bound {
+    /// None.
+    Any,
+    /// So many addresses.
+    Number(u128),
+    /// So many percent of the addresses that the lists have of the family.
+    Percent(u128),
+}
+
+/// The bound that a text names: `any`, a number, or a number and a `%`.
+pub(crate) fn bound_in(text: &str) -> Option<Bound> {
+    if text == "any" {
+        return Some(Bound::Any);
+    }
+    let bytes = text.as_bytes();
+    if is_number(bytes) {
+        return Some(Bound::Number(large_number(bytes)));
+    }
+    let (digits, sign) = bytes.split_at(bytes.len().saturating_sub(1));
+    if sign == b"%".as_slice() && is_number(digits) {
+        return Some(Bound::Percent(large_number(digits)));
+    }
+    None
+}
+
+// The number that decimal digits name, or `u128::MAX` if it is greater.
+fn large_number(digits: &[u8]) -> u128 {
+    let mut number = 0u128;
+    for digit in digits {
+        number = number
+            .saturating_mul(10)
+            .saturating_add(u128::from(digit.saturating_sub(b'0')));
+    }
+    number
+}
+
+/// The greatest number of other addresses that the bound allows beside so many of the lists.
+pub(crate) fn allowed(bound: Bound, addresses: AddressCount) -> u128 {
+    match bound {
+        Bound::Any => u128::MAX,
+        Bound::Number(number) => number,
+        Bound::Percent(percent) => percent_of(percent, addresses),
+    }
+}
+
+// So many percent of a count, or `u128::MAX` if that is greater.
+fn percent_of(percent: u128, count: AddressCount) -> u128 {
+    let (hundreds, rest) = in_hundreds(count);
+    let of_rest = percent / 100 * rest + percent % 100 * rest / 100;
+    percent.saturating_mul(hundreds).saturating_add(of_rest)
+}
+
+// How many hundreds a count has, and what is left of it.
+fn in_hundreds(count: AddressCount) -> (u128, u128) {
+    match count {
+        AddressCount::Number(number) => (number / 100, number % 100),
+        AddressCount::AllOfIpv6 => (u128::MAX / 100, u128::MAX % 100 + 1),
+    }
+}
