@@ -11,7 +11,7 @@ import re
 import limits
 from cidr_filter_inputs import lacking
 
-LIST = ["10.0.0.0/8", "192.0.2.0/24", "2001:db8::/32"]
+LIST = ["10.0.0.0/8", "192.0.2.0/24", "2001:db8::/32", "::ffff:11.0.0.0/105"]
 
 
 def address(text):
@@ -47,12 +47,17 @@ def asked(one):
     return (one.version == 6 and one.ipv4_mapped) or one
 
 
+def is_in(one, networks, mapped):
+    """Whether the address, or with `mapped` the IPv4 address that it stands for, is in one of the networks."""
+    return any(form in network for form in ({one, asked(one)} if mapped else {one}) for network in networks)
+
+
 def wanted(lines, networks, addresses, inverts, mapped):
     """The lines that are selected."""
     selected = []
     for line in lines:
-        found = [asked(one) if mapped else one for one in addresses(line)]
-        inside = any(one in network for one in found for network in networks)
+        found = addresses(line)
+        inside = any(is_in(one, networks, mapped) for one in found)
         if found and inside != inverts:
             selected.append(line)
     return "".join(f"{line}\n" for line in selected)
@@ -122,8 +127,7 @@ def texts(program, folder):
     for name, lines in logs(random.Random(6)):
         log = "".join(f"{line}\n" for line in lines).encode()
         for words in (["-ao"], ["-oa", "--mapped"]):
-            of = asked if "--mapped" in words else lambda one: one
-            found = [text for line in lines for text, one in of_line(line) if any(of(one) in network for network in networks)]
+            found = [text for line in lines for text, one in of_line(line) if is_in(one, networks, "--mapped" in words)]
             output = "".join(f"{text}\n" for text in found).encode()
             got = limits.run([program, *words, *lists], input=log, capture_output=True)
             got = (got.stdout, got.stderr, got.returncode)
@@ -258,7 +262,7 @@ def network_logs(rng):
         if kind == 0:
             return f"{ipaddress.ip_address(0x20010DB8 << 96 | rng.getrandbits(96))}/{rng.choice([16, 31, 32, 33, 64, 128, 129])}"
         if kind == 1:
-            return f"::ffff:{ipaddress.ip_address(10 << 24 | rng.getrandbits(24))}/{rng.choice([94, 95, 96, 104, 105, 112, 120, 128])}"
+            return f"::ffff:{ipaddress.ip_address(rng.choice([10, 11]) << 24 | rng.getrandbits(24))}/{rng.choice([94, 95, 96, 104, 105, 112, 120, 128])}"
         if kind == 2:
             return f"10.{rng.randrange(4)}.0.0/255.{rng.choice([255, 254, 128, 0])}.0.0"
         text = str(ipaddress.ip_address(rng.choice([10 << 24, 192 << 24 | 2 << 8, 11 << 24]) | rng.getrandbits(rng.choice([2, 8, 16]))))
@@ -267,8 +271,8 @@ def network_logs(rng):
     return [rng.choice(shapes).format(one(), one()) for _ in range(3000)]
 
 
-# Two halves of a network and an end of it that overlaps neither, and a network of IPv6
-LISTED = ["10.0.0.0/9", "10.128.0.0/9", "192.0.2.0/25", "192.0.2.128/26", "2001:db8::/32"]
+# Two halves of a network and an end of it that overlaps neither, a network of IPv6, and one of IPv4-mapped addresses
+LISTED = ["10.0.0.0/9", "10.128.0.0/9", "192.0.2.0/25", "192.0.2.128/26", "2001:db8::/32", "::ffff:11.0.0.0/104"]
 
 
 def networks(program, folder):
@@ -285,8 +289,8 @@ def networks(program, folder):
         (["-a", "-d,", "-k2"], lambda line: anywhere(field(line, 2, ","))), (["--after", "DST="], lambda line: anywhere(line.split("DST=", 1)[1])[:1] if "DST=" in line else []),
     ]:
         for more in ([], ["-v"], ["--mapped"]):
-            of = unmapped if more == ["--mapped"] else lambda one: one
-            chosen = [line for line in lines if found(line) and any(has_all(blocks, of(one)) for one in found(line)) != (more == ["-v"])]
+            forms = (lambda one: {one, unmapped(one)}) if more == ["--mapped"] else lambda one: {one}
+            chosen = [line for line in lines if found(line) and any(has_all(blocks, form) for one in found(line) for form in forms(one)) != (more == ["-v"])]
             output = "".join(f"{line}\n" for line in chosen).encode()
             got = limits.run([program, "--networks", *words, *more, *lists], input=log, capture_output=True)
             got = (got.stdout, got.stderr, got.returncode)
@@ -308,10 +312,10 @@ def families(program, folder):
     lists = [word for text in LIST for word in ("-e", text)]
     for name, lines in logs(random.Random(12)):
         log = "".join(f"{line}\n" for line in lines).encode()
-        for version, words in itertools.product((4, 6), (["-a"], ["-av"], ["-a", "--mapped"], ["-v"])):
+        for version, words in itertools.product((4, 6), (["-a"], ["-av"], ["-a", "--mapped"], ["-v"], ["-v", "--mapped"])):
             mapped = "--mapped" in words
             places = (lambda line: [one for _, one in of_line(line)]) if "a" in words[0] else (lambda line: [one for one in [address(line.split(" ")[0])] if one])
-            found = lambda line: [one for one in places(line) if (asked(one) if mapped else one).version == version]
+            found = lambda line: [one for one in places(line) if (asked(one) if mapped and version == 4 else one).version == version]
             output = wanted(lines, networks, found, "v" in words[0], mapped).encode()
             got = limits.run([program, f"-{version}", *words, *lists], input=log, capture_output=True)
             got = (got.stdout, got.stderr, got.returncode)

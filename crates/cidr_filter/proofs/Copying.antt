@@ -1,5 +1,5 @@
 -- Lines that are copied into the output before it is known whether they are selected.
-use Rattle.cidr_filter.proofs.Words.{◌≡◌, ◌↔◌, ℕ, ◌≤◌, ◌∙◌, Bool, true, false, cond, not, List, [], ◌∷◌, length, refl, sym, ap, subst, arith, inl, true≢false, Option, None, Some, IfSome, IsTrue, option_map, beq, option_to_list, IpAddr, Spelled, spelled, part_of, picked_in, each_in, spelled_in, Area, Pick, found_in, IsVerdict, IsVerdictOfAddresses, FirstListed, TellsBlock, addresses_in, is_of_family, of_family, HasAddress, IsIn, asked, reads_networks, HasOnly, IsSelectedByAddress, Filter, Matcher, Addresses, Sets}
+use Rattle.cidr_filter.proofs.Words.{◌≡◌, ◌↔◌, ℕ, ◌≤◌, ◌∙◌, Bool, true, false, cond, not, List, [], ◌∷◌, length, refl, sym, ap, subst, arith, inl, true≢false, Option, None, Some, IfSome, IsTrue, option_map, beq, option_to_list, IpAddr, Spelled, spelled, part_of, picked_in, each_in, spelled_in, Area, Pick, found_in, IsVerdict, IsVerdictOfAddresses, FirstListed, TellsBlock, addresses_in, is_of, of_family, HasAddress, IsIn, OfForms, address_named, asked, reads_networks, ip_network_of, if◌then◌else◌, ◌&&◌, HasOnly, IsSelectedByAddress, Filter, Matcher, Addresses, Sets}
 use Rattle.line_addresses.specs.declared.area.Pick.TheVariants as picks
 use Rattle.cidr_filter.specs.declared.filter.Verdict.TheVariants as verdicts
 
@@ -46,32 +46,34 @@ unlike_false false = refl
 
 module _ (filter : Filter) (line : List ℕ) (sets : Sets) (address : IpAddr) (short : length line ≤ 1048576)
     (is : filter.listed ≡ Addresses sets) (only : HasOnly filter.area line address)
-    (counts : is_of_family filter.family filter.mapped address ≡ true) where
+    (counts : is_of filter.family (asked filter.mapped address) address ≡ true) where
   abbrev one : Spelled
   one = record { text = only.0; address = address }
 
   alone : addresses_in filter line ≡ one ∷ []
-  alone = ap (of_family filter.family filter.mapped) (ap (λ (l : Matcher). spelled_in (reads_networks l) filter.area
-      line) is ∙ only.1) ∙ ap (λ b. cond b (one ∷ []) []) counts
+  alone = ap (of_family filter) (ap (λ (l : Matcher). spelled_in (reads_networks l) filter.area line) is ∙ only.1)
+      ∙ ap (λ b. cond b (one ∷ []) []) (ap (λ (l : Matcher). is_of filter.family
+      (if reads_networks l && filter.mapped then address_named address (ip_network_of only.0)
+      else asked filter.mapped address) address) is ∙ counts)
 
-  inside : HasAddress sets (asked filter.mapped address) → IsVerdict filter line (verdicts.Inside None)
+  inside : OfForms filter.mapped (HasAddress sets) address → IsVerdict filter line (verdicts.Inside None)
   inside has = (
     short,
     subst (λ (l : List Spelled). FirstListed filter l None) (sym alone)
         (inl (
           subst (λ (l : Matcher). IsIn l filter.mapped one) (sym is) has,
-          subst (λ (l : Matcher). TellsBlock l (asked filter.mapped address) None) (sym is) refl,
+          subst (λ (l : Matcher). TellsBlock l filter.mapped address None) (sym is) refl,
         )),
   )
 
-  outside : ¬ (HasAddress sets (asked filter.mapped address)) → IsVerdict filter line verdicts.Outside
+  outside : ¬ (OfForms filter.mapped (HasAddress sets) address) → IsVerdict filter line verdicts.Outside
   outside none = (
     short,
     subst (λ (l : List Spelled). IsVerdictOfAddresses filter l verdicts.Outside) (sym alone)
         (omega arith, ((λ h. none (subst (λ (l : Matcher). IsIn l filter.mapped one) is h)), tt)),
   )
 
-  pub by_address : (is_in : Bool) → IsTrue is_in ↔ HasAddress sets (asked filter.mapped address)
+  pub by_address : (is_in : Bool) → IsTrue is_in ↔ OfForms filter.mapped (HasAddress sets) address
       → IsSelectedByAddress filter line (not (beq is_in filter.inverts))
   by_address true h = (verdicts.Inside None, inside (h.0 refl), refl, (λ seen. refl), unlike_true filter.inverts)
   by_address false h =

@@ -1,9 +1,9 @@
 -- The words of this crate and of those below, passed on from one place.
-pub use Rattle.cidr_filter.specs.Filters.{Filters, FiltersLine, FirstListed, IsListed, IsVerdict, IsVerdictOfAddresses, NoneListed, TellsBlock, TellsOf, addresses_in, fresh, head_of, is_count, is_full, is_listed, is_of_family, is_refused, is_selected, is_silent, mark_of, name_head, number_head, of_family, shown, shown_of, sought_in, tally_with, text_of, texts_of}
+pub use Rattle.cidr_filter.specs.Filters.{Filters, FiltersLine, FirstListed, IsListed, IsVerdict, IsVerdictOfAddresses, NoneListed, TellsBlock, TellsOf, addresses_in, fresh, head_of, is_count, is_full, is_listed, is_of, is_of_family, is_refused, is_selected, is_silent, mark_of, name_head, number_head, of_family, shown, shown_of, sought_in, tally_with, text_of, texts_of}
 pub use Rattle.cidr_filter.specs.Logs.{FiltersLog, FiltersLogs, both, count_line, filter_for, is_enough, label_of, missing, nothing, outcome_of, status_by}
-pub use Rattle.cidr_filter.specs.Matcher.{HasAddress, HasBlocksOf, IsIn, IsLongestBlock, IsStored, asked, covers_named, has_address, is_among, is_read_within, is_within, reads_networks}
+pub use Rattle.cidr_filter.specs.Matcher.{HasAddress, HasBlocksOf, IsIn, IsLongestBlock, IsStored, IsToldBlock, OfForms, address_named, asked, covers_named, has_address, has_form, is_among, is_read_within, is_within, reads_networks}
 pub use Rattle.cidr_filter.specs.Options.{entries}
-pub use Rattle.cidr_filter.specs.Private.Copying.{HasOnly, IsSelectedByAddress}
+pub use Rattle.cidr_filter.specs.Private.Copying.{HasOnly, IsSelectedByAddress, PrintsAsRead, copied}
 pub use Rattle.cidr_filter.specs.Private.Progress.{LineStops, PassesLine}
 pub use Rattle.cidr_filter.specs.Private.Reading.{HasBlocks, HasSets, ReadsAll}
 pub use Rattle.cidr_filter.specs.Reading.{HoldsRead, ReadsItems, StopsAtItems, question_of}
@@ -20,6 +20,7 @@ pub use Rattle.cidr_filter.specs.declared.matcher.Matcher.TheVariants.{Addresses
 pub use Rattle.cidr_filter.specs.declared.matcher.Sets.{Sets}
 pub use Rattle.cidr_filter.specs.declared.matcher.Tables.{Tables}
 pub use Rattle.cidr_filter.specs.declared.reading.Question.{Question}
+pub use Rattle.ipnetwork.specs.Computed.IpNetworkText.{ip_network_of}
 pub use Rattle.ipnetwork.specs.Computed.IpNetworks.{is_ip_subnet}
 pub use Rattle.ipnetwork.specs.IpNetworks.{IpMember, IpSubnet, IsIpNetwork}
 pub use Rattle.ipnetwork.specs.declared.ip_network.IpNetwork.{IpNetwork}
@@ -90,5 +91,5 @@ pub use Rattle.std.specs.FinMap.{FinMap}
 unfoldable pub use Rattle.std.specs.Fmt.{digits}
 pub use Rattle.std.specs.List.{All, Contains}
 pub use Rattle.std.specs.Option.{option_to_list}
-pub use Rattle.std.specs.Prelude.{Err, IfErr, IfOk, IfSome, IsTrue, None, Ok, OnOk, Option, Result, Some, bytes_eq, codes, is_ok, map, option_map}
+pub use Rattle.std.specs.Prelude.{Err, IfErr, IfOk, IfSome, IsOkUnless, IsTrue, None, Ok, OnErr, OnOk, Option, Result, Some, bytes_eq, codes, if◌then◌else◌, is_ok, map, option_map, ◌&&◌, ◌||◌, ◌⊎◌}
 pub use Rattle.std.specs.String.{string_bytes}

@@ -5,6 +5,7 @@ use Rattle.std.specs.Prelude.{if◌then◌else◌}
 use Rattle.std.specs.List.{AllByRecursion}
 use Rattle.ipnetwork_addr.specs.declared.ip.IpAddr.{IpAddr}
 use Rattle.ipnetwork_addr.specs.declared.ip.IpAddr.TheVariants as addresses
+use Rattle.ipnetwork.specs.Computed.IpNetworkText.{ip_network_of}
 use Rattle.ipnetwork.specs.IpNetworkText.{ip_network_text}
 use Rattle.ipnetwork.specs.declared.ip_network.IpNetwork.{IpNetwork}
 use Rattle.line_addresses.specs.Addresses.{Spelled}
@@ -15,7 +16,7 @@ use Rattle.log_programs.specs.LogReads.{OfLine}
 use Rattle.log_programs.specs.LogStats.{nothing, with_line, with_long}
 use Rattle.log_programs.specs.declared.log_stats.LogStats.{LogStats}
 use Rattle.cidr_filter.specs.declared.log.Tally.{Tally}
-use Rattle.cidr_filter.specs.Matcher.{IsIn, IsLongestBlock, asked, covers_named, has_address, reads_networks}
+use Rattle.cidr_filter.specs.Matcher.{IsIn, IsToldBlock, address_named, asked, covers_named, has_form, reads_networks}
 use Rattle.log_programs.specs.WithoutAddress.{is_stopped}
 use Rattle.log_programs.specs.declared.without_address.WithoutAddress.{WithoutAddress}
 use Rattle.log_programs.specs.declared.without_address.WithoutAddress.TheVariants as without
@@ -34,28 +35,38 @@ abbrev pub IsListed : Filter → Spelled → Type 0
 IsListed filter found = IsIn filter.listed filter.mapped found
 
 -- what is told about an address in the lists: nothing, or, with `--longest`, the longest block that contains it
-abbrev pub TellsBlock : Matcher → IpAddr → Option IpNetwork → Type 0
-TellsBlock (Addresses sets) address told = told ≡ None
-TellsBlock (Networks set) address told = told ≡ None
-TellsBlock (Blocks tables) address told = (block : IpNetwork) × (told ≡ Some block)
-    × IsLongestBlock tables address block
+abbrev pub TellsBlock : Matcher → Bool → IpAddr → Option IpNetwork → Type 0
+TellsBlock (Addresses sets) mapped address told = told ≡ None
+TellsBlock (Networks set) mapped address told = told ≡ None
+TellsBlock (Blocks tables) mapped address told = (block : IpNetwork) × (told ≡ Some block)
+    × IsToldBlock tables mapped address block
 
 abbrev pub TellsOf : Filter → Spelled → Option IpNetwork → Type 0
-TellsOf filter found told = TellsBlock filter.listed (asked filter.mapped found.address) told
+TellsOf filter found told = TellsBlock filter.listed filter.mapped found.address told
 
--- an address counts: the address that is looked up for it is of the family
 abbrev pub is_v4 : IpAddr → Bool
 is_v4 (addresses.V4 address) = true
 is_v4 (addresses.V6 address) = false
 
-abbrev pub is_of_family : Family → Bool → IpAddr → Bool
-is_of_family families.Either mapped address = true
-is_of_family families.V4 mapped address = is_v4 (asked mapped address)
-is_of_family families.V6 mapped address = not (is_v4 (asked mapped address))
+-- an address counts, of which `first` is looked up first: with `-4` by that one, with `-6` as it stands, so that an
+-- IPv4-mapped one counts as both with `--mapped`
+abbrev pub is_of : Family → IpAddr → IpAddr → Bool
+is_of families.Either first address = true
+is_of families.V4 first address = is_v4 first
+is_of families.V6 first address = not (is_v4 address)
 
--- those of the addresses that count
-abbrev pub of_family : Family → Bool → List Spelled → List Spelled
-of_family family mapped found = filter (λ one. is_of_family family mapped one.address) found
+-- the address by which what was found counts as IPv4: the one that is looked up first; with `--networks` and `--mapped`,
+-- an IPv4 one only if all addresses of the network are IPv4 or IPv4-mapped
+abbrev pub address_asked : Filter → Spelled → IpAddr
+address_asked filter found = if reads_networks filter.listed && filter.mapped
+    then address_named found.address (ip_network_of found.text) else asked filter.mapped found.address
+
+abbrev pub is_of_family : Filter → Spelled → Bool
+is_of_family filter found = is_of filter.family (address_asked filter found) found.address
+
+-- what counts of what was found
+abbrev pub of_family : Filter → List Spelled → List Spelled
+of_family given found = filter (is_of_family given) found
 
 -- the addresses of a line in the area searched, and, with `--networks`, its networks
 abbrev pub sought_in : Filter → List ℕ → List Spelled
@@ -63,7 +74,7 @@ sought_in filter line = spelled_in (reads_networks filter.listed) filter.area li
 
 -- those of them that count
 abbrev pub addresses_in : Filter → List ℕ → List Spelled
-addresses_in filter line = of_family filter.family filter.mapped (sought_in filter line)
+addresses_in filter line = of_family filter (sought_in filter line)
 
 -- one of the addresses is in the lists, and `told` is what is told about the first that is
 abbrev pub FirstListed : Filter → List Spelled → Option IpNetwork → Type 0
@@ -133,7 +144,7 @@ mark_of (Blocks tables) verdict = block_text (block_in verdict) ++ 9 ∷ []
 -- the test whether what was found is in the lists, for `-o`. For blocks it is false, since `-o` is not given together
 -- with `--longest`
 abbrev pub is_listed : Matcher → Bool → Spelled → Bool
-is_listed (Addresses sets) mapped found = has_address sets (asked mapped found.address)
+is_listed (Addresses sets) mapped found = has_form sets mapped found.address
 is_listed (Networks set) mapped found = covers_named set mapped found.text
 is_listed (Blocks tables) mapped found = false
 
@@ -151,8 +162,7 @@ head_of filter number = name_head filter.name ++ number_head filter.numbered num
 
 -- what was found is printed with `-o`, if it counts and is in the lists
 abbrev pub is_printed : Filter → Spelled → Bool
-is_printed filter found = is_of_family filter.family filter.mapped found.address
-    && is_listed filter.listed filter.mapped found
+is_printed filter found = is_of_family filter found && is_listed filter.listed filter.mapped found
 
 -- what `-o` prints for it: the head, its text and a line feed
 abbrev pub text_of : Filter → List ℕ → Spelled → List ℕ

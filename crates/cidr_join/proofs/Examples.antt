@@ -1,6 +1,10 @@
 -- Values at which a misreading of the definitions would show.
 use Rattle.cidr_join.proofs.Words.{◌≡◌, ◌^◌, ◌+◌, ◌∷◌, [], map, Bool, true, false, refl, codes, filter, None, digits, range_with_len, only, WithoutAddress, is_blank, is_word, block_in, is_left_out, is_refused, mark_of, shown_of, entries, pairs, lacks_tally, row_text, are_right_by, free_items, free_mode, rows_of, pairs_of, Value}
+use Rattle.cidr_join.proofs.Words.{ℕ, Some, inl, inr, Finds, FindsEither, Found, IpNetwork, Join, Routes}
 use Rattle.std.specs.Prelude.{not, List}
+use Rattle.line_addresses.proofs.Areas.{anywhere}
+use Rattle.cidr_join.specs.Routes.{IsLongestRoute, NoRouteHolds}
+use Rattle.cidr_join.specs.declared.answers.Answers.TheVariants as answers
 use Rattle.ipnetwork_addr.specs.declared.ip.IpAddr.TheVariants as addresses
 use Rattle.ipnetwork.specs.declared.ip_network.IpNetwork.TheVariants as families
 use Rattle.log_programs.specs.declared.without_address.WithoutAddress.TheVariants as without
@@ -63,6 +67,50 @@ pub block_of_networks : map (λ prefix. block_in (record { v4 = 24; v6 = 64 })
     (families.V4 (record { address = 167838211; prefix = prefix }))) (24 ∷ 23 ∷ [])
     ≡ founds.Network (families.V4 (record { address = 167838208; prefix = 24 })) ∷ founds.Nothing ∷ []
 block_of_networks = refl
+
+-- ---- with `--mapped`, what is found for a network of IPv4-mapped addresses
+
+-- the block of its IPv4 addresses, in blocks of 16 and 48 bits, or, if none contains that, that of the network as it
+-- stands; that of a network of other addresses too
+abbrev grouping : Bool → Join
+grouping mapped = record {
+  answers = answers.Blocks (record { v4 = 16; v6 = 48 });
+  area = anywhere;
+  networks = true;
+  mapped = mapped;
+  last = false;
+  bad = without.Unsaid;
+  zeros = false;
+}
+
+abbrev mapped_network : ℕ → IpNetwork
+mapped_network prefix = families.V6 (record { address = 0xffff0a010000; prefix = prefix })
+
+abbrev lowest_block : Found
+lowest_block = founds.Network (families.V6 (record { address = 0; prefix = 48 }))
+
+abbrev v4_block : Found
+v4_block = founds.Network (families.V4 (record { address = 0x0a010000; prefix = 16 }))
+
+pub block_of_ipv4_first : Finds (grouping true) (Some (mapped_network 112)) v4_block
+    × Finds (grouping true) (Some (mapped_network 128)) v4_block
+    × Finds (grouping true) (Some (mapped_network 96)) lowest_block
+    × Finds (grouping true) (Some (mapped_network 95)) lowest_block
+    × Finds (grouping false) (Some (mapped_network 112)) lowest_block
+block_of_ipv4_first = (
+  inl (refl, refl),
+  inl (refl, refl),
+  inr (refl, refl),
+  inl (refl, refl),
+  inl (refl, refl),
+)
+
+-- of the values of a list, that of the IPv4 addresses, if a network of the list contains these
+pub value_of_ipv4_first : (routes : Routes) (first second : IpNetwork) (value : Value)
+    → FindsEither (answers.Values routes) first second (founds.Value value) → ¬ (NoRouteHolds routes first)
+    → (network : IpNetwork) × IsLongestRoute routes first network value
+value_of_ipv4_first routes first second value (inl finds) some = finds.0
+value_of_ipv4_first routes first second value (inr finds) some = absurd (some finds.0)
 
 -- ---- lines of lists
 

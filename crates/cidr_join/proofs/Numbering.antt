@@ -1,5 +1,5 @@
 -- How the networks of a list are numbered, and what the number that is found stands for.
-use Rattle.cidr_join.proofs.Words.{◌≡◌, ℕ, zero, suc, ◌==◌, Bool, true, false, cond, List, [], ◌∷◌, ◌++◌, length, ◌⊎◌, inl, inr, refl, sym, ap, subst, ◌∙◌, slice_get, IsSome, Result, Ok, Err, IfOk, vec_len, if◌then◌else◌, flat_map, FinMap, get, insert, empty, get-empty, get-insert, eq_by_cmp, eq_by_cmp_equiv, flat_map-append, none-some, IpNetwork, Network, HostBitsAreZero, block_of, network_cmp, HasOnlyBlocks, same_value, listed_is_stored, stored_is_listed, total, one_network, tie_of, Finds, FindsBy, IsLongestOver, NoneHasAll, Values, answers_by, named, named_by, AreNumbered, AddsNumbers, AnswersOver, founds_of, NumbersRoutes, IsNumbering, StandsFor, StandsForRoute, found_by, number_or_none, Found, Join, ValueIds, Routes, Value}
+use Rattle.cidr_join.proofs.Words.{◌≡◌, ℕ, zero, suc, ◌==◌, Bool, true, false, cond, List, [], ◌∷◌, ◌++◌, length, ◌⊎◌, inl, inr, refl, sym, ap, subst, ◌∙◌, slice_get, IsSome, Result, Ok, Err, IfOk, vec_len, if◌then◌else◌, flat_map, FinMap, get, insert, empty, get-empty, get-insert, eq_by_cmp, eq_by_cmp_equiv, flat_map-append, none-some, IpNetwork, Network, HostBitsAreZero, block_of, network_cmp, HasOnlyBlocks, same_value, listed_is_stored, stored_is_listed, total, one_network, tie_of, Finds, FindsBy, IsLongestOver, NoneHasAll, Values, answers_by, named, named_by, AreNumbered, AddsNumbers, AnswersOver, founds_of, NumbersRoutes, IsNumbering, StandsFor, StandsForEither, asked_network, found_by, number_or_none, Found, Join, ValueIds, Routes, Value}
 use Rattle.std.proofs.Common.{Option, None, Some, is_some}
 use Rattle.std.specs.Prelude.{map}
 use Rattle.std.specs.FinMap.{entries}
@@ -211,22 +211,22 @@ not_empty numbered empty is not none =
     ∙ sym (ap (λ n. n == 0) numbered.founds.ok.0) ∙ sym is ∙ not in
     absurd (cc)
 
-pub stands_for_none : (by : Answering) (numbered : ValueIds) → ¬ (numbered.founds.items ≡ []) → IsNumbering by numbered
-    → StandsFor by None numbered.founds.items 0
-stands_for_none (answers.Values routes) numbered some h = at_zero _ _ h.founds
-stands_for_none (answers.Networks routes) numbered some h = at_zero _ _ h.founds
-stands_for_none (answers.Blocks lengths) numbered some h = absurd (some h)
+pub stands_for_none : (by : Answering) (mapped : Bool) (numbered : ValueIds) → ¬ (numbered.founds.items ≡ [])
+    → IsNumbering by numbered → StandsFor by mapped None numbered.founds.items 0
+stands_for_none (answers.Values routes) mapped numbered some h = at_zero _ _ h.founds
+stands_for_none (answers.Networks routes) mapped numbered some h = at_zero _ _ h.founds
+stands_for_none (answers.Blocks lengths) mapped numbered some h = absurd (some h)
 
-pub stands_for_some : (by : Answering) (numbered : ValueIds) (asked : IpNetwork) (number : ℕ)
-    → ¬ (numbered.founds.items ≡ []) → StandsForRoute numbered asked number → IsNumbering by numbered
-    → StandsFor by (Some asked) numbered.founds.items number
-stands_for_some (answers.Values routes) numbered asked number some stands h = stands false routes h
-stands_for_some (answers.Networks routes) numbered asked number some stands h = stands true routes h
-stands_for_some (answers.Blocks lengths) numbered asked number some stands h = absurd (some h)
+pub stands_for_some : (by : Answering) (mapped : Bool) (numbered : ValueIds) (asked : IpNetwork) (number : ℕ)
+    → ¬ (numbered.founds.items ≡ []) → StandsForEither numbered (asked_network mapped asked) asked number
+    → IsNumbering by numbered → StandsFor by mapped (Some asked) numbered.founds.items number
+stands_for_some (answers.Values routes) mapped numbered asked number some stands h = stands false routes h
+stands_for_some (answers.Networks routes) mapped numbered asked number some stands h = stands true routes h
+stands_for_some (answers.Blocks lengths) mapped numbered asked number some stands h = absurd (some h)
 
 -- what the number for a line stands for
 pub line_found : (join : Join) (asked : Option IpNetwork) (items : List Found) (number : ℕ)
-    → StandsFor join.answers asked items number
+    → StandsFor join.answers join.mapped asked items number
     → (found : Found) × (slice_get items number ≡ Some found) × Finds join asked found
 line_found join None items number stands = (prints.Nothing, stands, refl)
 line_found join (Some asked) items number stands = stands

@@ -3,14 +3,14 @@ pub use Rattle.byte_search.specs.Bytes.{IsAbsent, IsNext}
 pub use Rattle.cidr_join.specs.Asked.{network_read, only}
 pub use Rattle.cidr_join.specs.Entries.{EntryFails, LineFaults, Says, entry_len, entry_part, is_blank, is_skipped, is_word, trimmed}
 pub use Rattle.cidr_join.specs.Groups.{block_in}
-pub use Rattle.cidr_join.specs.Joins.{Finds, FindsBy, GivesLine, asked_in, counted_for, counted_in, is_left_out, is_long, is_refused, mark_of, network_in, never, seen_with, shown_in, shown_of}
+pub use Rattle.cidr_join.specs.Joins.{Finds, FindsBy, FindsEither, GivesLine, asked_in, counted_for, counted_in, is_left_out, is_long, is_refused, mark_of, network_in, never, seen_with, shown_in, shown_of}
 pub use Rattle.cidr_join.specs.Lists.{AreRead, NotRead, lines_of, list_in, list_text, lists_of}
 pub use Rattle.cidr_join.specs.Logs.{GivesOne}
 pub use Rattle.cidr_join.specs.Longest.{FindsOver, HasAll, IsLongestOver, NoneHasAll}
 pub use Rattle.cidr_join.specs.Options.{entries, pairs}
 pub use Rattle.cidr_join.specs.Private.Counting.{Counted, CountsTexts, found_for, named_by, named_if, repeated, row_of, some_count}
 pub use Rattle.cidr_join.specs.Private.Listing.{EndsLines, GoesOn, LineFails, TellsUnread, TellsUntaken, Unread, left_out}
-pub use Rattle.cidr_join.specs.Private.Numbering.{AddsNumbers, AnswersOver, AreNumbered, IsNumbering, NumbersRoutes, StandsFor, StandsForRoute, found_by, founds_of, number_or_none}
+pub use Rattle.cidr_join.specs.Private.Numbering.{AddsNumbers, AnswersOver, AreNumbered, IsNumbering, NumbersRoutes, StandsFor, StandsForEither, found_by, founds_of, number_or_none}
 pub use Rattle.cidr_join.specs.Private.TallyProgress.{CountsAll, CountsAsked, CountsLine, CountsLog, CountsNames, CountsSoFar, FailsReading, IsCounted, LineNotCounted, StopsCounting, TellsUncounted}
 pub use Rattle.cidr_join.specs.Routes.{EntryHasOne, IsGoodEntry, IsRefusal, Keeps, SetsAll, SetsEntry, Values, no_networks, one_has}
 pub use Rattle.cidr_join.specs.Runs.{DoesRequest, EndsAsked, EndsBy, EndsFiles, EndsGrouping, EndsJoining, EndsTally, JoinsLogs, LacksMemory, RunsOut, answers_by, answers_of, lacks_tally, lengths_of, rules_of, status_by}
@@ -63,6 +63,7 @@ pub use Rattle.log_programs.specs.InTurn.{InTurn}
 pub use Rattle.log_programs.specs.LogReads.{Cuts, PrintsLog, PrintsSoFar, ReadsLog, ReadsSoFar, is_cut}
 pub use Rattle.log_programs.specs.LogStats.{nothing, with_line, with_long}
 pub use Rattle.log_programs.specs.LogsInTurn.{Finishes, LogsSoFar, StopsLog}
+pub use Rattle.log_programs.specs.Unmapping.{asked_network}
 pub use Rattle.log_programs.specs.WithoutAddress.{is_missed}
 pub use Rattle.log_programs.specs.WithoutAddress.{is_dropped, is_stopped}
 pub use Rattle.log_programs.specs.declared.log_stats.LogStats.{LogStats}

@@ -1,7 +1,7 @@
 -- What is printed for the lines of a log.
 use Rattle.std.specs.Prelude.{◌≡◌, ℕ, ◌||◌, ◌⊎◌, Bool, true, false, List, [], ◌∷◌, ◌++◌, Option, None, Some, length}
 use Rattle.std.specs.Prelude.{drop}
-use Rattle.std.specs.Prelude.{codes, nat_lt, option_map, if◌then◌else◌}
+use Rattle.std.specs.Prelude.{codes, nat_lt, if◌then◌else◌}
 use Rattle.std.specs.Option.{is_some}
 use Rattle.ipnetwork.specs.IpNetworkText.{ip_network_text}
 use Rattle.ipnetwork.specs.declared.ip_network.IpNetwork.{IpNetwork}
@@ -25,15 +25,11 @@ use Rattle.cidr_join.specs.declared.join.Join.{Join}
 use Rattle.cidr_join.specs.declared.value.Value.{Value}
 
 -- the address or network found in a line, as a network; that of an address has no other address
-abbrev pub found_in : Join → List ℕ → Option IpNetwork
-found_in join line =
+abbrev pub network_in : Join → List ℕ → Option IpNetwork
+network_in join line =
     network_of_found join.networks (picked_in join.networks join.area.pick (part_of join.area.part line))
 
--- the network that is looked up in the list
-abbrev pub network_in : Join → List ℕ → Option IpNetwork
-network_in join line = option_map (asked_network join.mapped) (found_in join line)
-
--- what is found for it: the value of the longest network of the list that contains it, or that network, or nothing; or,
+-- what is found for a network: the value of the longest network of the list that contains it, or that network, or nothing; or,
 -- with `--group`, the block that contains it, if one does
 abbrev pub FindsBy : Answers → IpNetwork → Found → Type 0
 FindsBy (answers.Values routes) asked (founds.Network network) = ⊥
@@ -46,10 +42,21 @@ FindsBy (answers.Networks routes) asked (founds.Value value) = ⊥
 FindsBy (answers.Networks routes) asked founds.Nothing = NoRouteHolds routes asked
 FindsBy (answers.Blocks lengths) asked found = found ≡ block_in lengths asked
 
--- what is found for the network of a line, or for a line without one
+-- what is found for the first network or, if that is nothing, for the second
+abbrev pub is_nothing : Found → Bool
+is_nothing (founds.Network network) = false
+is_nothing (founds.Value value) = false
+is_nothing founds.Nothing = true
+
+abbrev pub FindsEither : Answers → IpNetwork → IpNetwork → Found → Type 0
+FindsEither by first second found = (FindsBy by first found × (is_nothing found ≡ false))
+    ⊎ (FindsBy by first founds.Nothing × FindsBy by second found)
+
+-- what is found for the network of a line, or for a line without one; with `--mapped`, a network of IPv4-mapped
+-- addresses is looked up as that of their IPv4 addresses first, and then as it stands
 abbrev pub Finds : Join → Option IpNetwork → Found → Type 0
 Finds join None found = found ≡ founds.Nothing
-Finds join (Some asked) found = FindsBy join.answers asked found
+Finds join (Some asked) found = FindsEither join.answers (asked_network join.mapped asked) asked found
 
 -- the text for what was found: the network's canonical text, or the value, or a minus sign for nothing
 abbrev pub mark_of : Found → List ℕ

@@ -23,7 +23,8 @@ Prints the lines of logs, each with the value that a list gives its address.
                     -k, -d or -w select: 10.1.1.1:51234, [10.1.1.1], SRC=10.1.1.1 and
                     [2001:db8::1]:443 have one; v10.1.2.3, 1.2.3.4.5 and 12:34:56 have none",
     "
-    --mapped        treat an address ::ffff:A.B.C.D of a line as A.B.C.D
+    --mapped        look up an address ::ffff:A.B.C.D of a line as A.B.C.D first, and if no network
+                    has that, as it stands
     --networks      also look up the networks in a line (10.1.0.0/16), by the longest network of the
                     list, or the block of --group, that has all its addresses; without this option
                     only its address is looked up

@@ -7,7 +7,6 @@ use crate::asked::network_of;
 use crate::found::Found;
 use ipnetwork::IpNetwork;
 use line_addresses::{Area, part_of, picked};
-use log_programs::unmapping::asked_network;
 use log_programs::without_address::WithoutAddress;
 
 /// What decides what is printed for a line.
@@ -18,7 +17,7 @@ pub struct Join<'a> {
     pub(crate) area: Area<'a>,
     /// Whether lines are searched for networks as well as addresses.
     pub(crate) networks: bool,
-    /// Whether an IPv4-mapped address or network of a line counts as its IPv4 one.
+    /// Whether an IPv4-mapped address or network of a line counts as its IPv4 one too.
     pub(crate) mapped: bool,
     /// Whether that is printed after the line instead of before it.
     pub(crate) last: bool,
@@ -34,7 +33,7 @@ impl<'a> Join<'a> {
         ensures { Finds self.now asked result }
     {
         match asked {
-            Some(asked) => self.answers.find(asked),
+            Some(asked) => self.answers.find(&asked, self.mapped),
             None => Found::Nothing,
         }
     }
@@ -61,8 +60,8 @@ impl<'a> Join<'a> {
         }
     }
 
-    /// Returns the network of a line that is looked up; that of an address has no other address.
-    /// The line is given without its end.
+    /// Returns the network of a line; that of an address has no other address. The line is given
+    /// without its end.
     pub(crate) fn network_in(&self, line: &[u8]) -> Option<IpNetwork>
         ensures { result ≡ network_in self.now line.now }
     {
@@ -72,9 +71,6 @@ impl<'a> Join<'a> {
         let Some(found) = picked(part, self.area.pick, self.networks) else {
             return None;
         };
-        match network_of(part, &found, self.networks) {
-            Some(network) => Some(asked_network(self.mapped, network)),
-            None => None,
-        }
+        network_of(part, &found, self.networks)
     }
 }

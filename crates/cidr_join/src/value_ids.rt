@@ -3,7 +3,8 @@ ghost use Rattle.std.specs.Prelude.{◌≡◌, ℕ, [], ◌∷◌, ◌++◌, Opt
 ghost use Rattle.ipnetwork.specs.declared.ip_network.IpNetwork.{IpNetwork as AnyNetwork};
 ghost use Rattle.ipnetwork_family.specs.Network.{Network as Pair};
 ghost use Rattle.ipnetwork_table.specs.Table.{HasOnlyBlocks};
-ghost use Rattle.cidr_join.specs.Private.Numbering.{AddsNumbers, AnswersOver, NumbersRoutes, IsNumbering, StandsFor, StandsForRoute, found_by, number_or_none};
+ghost use Rattle.log_programs.specs.Unmapping.{asked_network};
+ghost use Rattle.cidr_join.specs.Private.Numbering.{AddsNumbers, AnswersOver, NumbersRoutes, IsNumbering, StandsFor, StandsForEither, StandsForRoute, found_by, number_or_none};
 ghost use Rattle.cidr_join.specs.declared.answers.Answers.{Answers as AnswersOf};
 
 use crate::answers::Answers;
@@ -14,6 +15,7 @@ use crate::value::Value;
 use ipnetwork::{IpNetwork, Ipv4Network, Ipv6Network};
 use ipnetwork_index::{IndexedNetwork, RouteIndex};
 use ipnetwork_table::PrefixTable;
+use log_programs::unmapping::asked_network;
 use std::alloc::{AllocError, Global};
 
 /// The numbers of the networks of a list, and what each number stands for. The number 0 is for
@@ -77,21 +79,48 @@ impl<'a> ValueIds<'a> {
     }
 
     /// Returns the number that stands for what is printed for the network of a line, or for a line
-    /// without one; `None` if there are no numbers. Does not allocate.
-    pub(crate) fn number_of(&self, asked: Option<IpNetwork>) -> Option<usize>
+    /// without one; `None` if there are no numbers. If `mapped`, a network of IPv4-mapped addresses
+    /// counts as the one of their IPv4 addresses too. Does not allocate.
+    pub(crate) fn number_of(&self, asked: Option<IpNetwork>, mapped: bool) -> Option<usize>
         ensures { IfSome result (λ number. (by : AnswersOf) → IsNumbering by self.now
-            → StandsFor by asked self.now.founds.items number) }
+            → StandsFor by mapped asked self.now.founds.items number) }
     {
         if self.founds.is_empty() {
             return None;
         }
         match asked {
-            Some(asked) => Some(self.number_at(asked)),
+            Some(asked) => Some(self.number_for(&asked, mapped)),
             None => Some(0),
         }
     }
 
     // Returns the number that stands for what is printed for a network.
+    fn number_for(&self, network: &IpNetwork, mapped: bool) -> usize
+        ensures { StandsForEither self.now (asked_network mapped network.now) network.now result }
+    {
+        if mapped {
+            self.number_of_either(asked_network(true, *network), *network)
+        } else {
+            self.number_at(*network)
+        }
+    }
+
+    // Returns the number that stands for what is printed for the first network, or, if that is
+    // nothing, for the second.
+    fn number_of_either(&self, first: IpNetwork, second: IpNetwork) -> usize
+        ensures { StandsForEither self.now first second result }
+    {
+        if first == second {
+            return self.number_at(first);
+        }
+        let number = self.number_at(first);
+        match self.founds.get(number) {
+            Some(Found::Nothing) => self.number_at(second),
+            _ => number,
+        }
+    }
+
+    // Returns the number that stands for what is printed for a network as it stands.
     fn number_at(&self, asked: IpNetwork) -> usize
         ensures { StandsForRoute self.now asked result }
     {

@@ -2,8 +2,8 @@
 
 //! The verdict on a line, and whether the line is selected.
 
-use crate::matcher::Matcher;
-use crate::networks::covers;
+use crate::matcher::{Matcher, asked};
+use crate::networks::{address_named, covers};
 use fosibegan_core::ipnetwork::{IpAddr, IpNetwork};
 use cidr_programs::line_addresses::{Area, Found, Pick, Text, next_found, part_of, picked};
 use cidr_programs::log_programs::finding::found_in;
@@ -54,7 +54,7 @@ pub enum OutputMode {
 pub struct Filter<'a> {
     pub(crate) listed: Matcher,
     pub(crate) area: Area<'a>,
-    /// Whether an IPv4-mapped address of a line counts as its IPv4 one.
+    /// Whether an IPv4-mapped address of a line counts as its IPv4 one too.
     pub(crate) mapped: bool,
     /// The family whose addresses count.
     pub(crate) family: Family,
@@ -95,7 +95,7 @@ impl Filter<'_> {
             return None;
         };
         match self.only_address(line) {
-            Some(address) => Some(sets.contains(self.asked(address)) != self.inverts),
+            Some(address) => Some(sets.has_form(address, self.mapped) != self.inverts),
             None => None,
         }
     }
@@ -115,7 +115,7 @@ impl Filter<'_> {
         let Some(address) = address else {
             return None;
         };
-        if self.is_of_family(&address) {
+        if self.is_address_of_family(&address) {
             Some(address)
         } else {
             None
@@ -153,7 +153,7 @@ impl Filter<'_> {
     // Returns the verdict on a line in which only `found` is looked at.
     #[inline(always)]
     fn judge_found(&self, part: &[u8], found: &Found) -> Verdict {
-        if !self.is_of_family(&found.address) {
+        if !self.is_of_family(part, found) {
             return Verdict::NoAddress;
         }
         match self.told_of(part, found) {
@@ -162,13 +162,34 @@ impl Filter<'_> {
         }
     }
 
-    // Whether an address of a line counts.
+    // Whether an address or network of a line counts.
     #[inline(always)]
-    fn is_of_family(&self, address: &IpAddr) -> bool {
+    fn is_of_family(&self, line: &[u8], found: &Found) -> bool {
+        self.family == Family::Either || self.is_of(self.address_asked(line, found), found.address)
+    }
+
+    // Returns the address by which an address or network of a line counts as IPv4.
+    fn address_asked(&self, line: &[u8], found: &Found) -> IpAddr {
+        if self.listed.reads_networks() && self.mapped {
+            address_named(&line[found.start..found.end], found.address)
+        } else {
+            asked(self.mapped, found.address)
+        }
+    }
+
+    // Whether an address of a line counts, if networks do not.
+    #[inline(always)]
+    fn is_address_of_family(&self, address: &IpAddr) -> bool {
+        self.family == Family::Either || self.is_of(asked(self.mapped, *address), *address)
+    }
+
+    // Whether an address counts, of which `first` is looked up first.
+    #[inline(always)]
+    fn is_of(&self, first: IpAddr, address: IpAddr) -> bool {
         match self.family {
             Family::Either => true,
-            Family::V4 => is_v4(self.asked(*address)),
-            Family::V6 => !is_v4(self.asked(*address)),
+            Family::V4 => is_v4(first),
+            Family::V6 => !is_v4(address),
         }
     }
 
@@ -178,7 +199,7 @@ impl Filter<'_> {
         let mut is_seen = false;
         let networks = self.listed.reads_networks();
         'addresses: while let Some(found) = next_found(line, at, networks) {
-            if !self.is_of_family(&found.address) {
+            if !self.is_of_family(line, &found) {
                 at = found.next;
                 continue 'addresses;
             }
@@ -200,7 +221,7 @@ impl Filter<'_> {
     fn told_of(&self, line: &[u8], found: &Found) -> Option<Option<IpNetwork>> {
         match &self.listed {
             Matcher::Addresses(sets) => {
-                if sets.contains(self.asked(found.address)) {
+                if sets.has_form(found.address, self.mapped) {
                     Some(None)
                 } else {
                     None
@@ -213,7 +234,7 @@ impl Filter<'_> {
                     None
                 }
             }
-            Matcher::Blocks(tables) => match tables.longest(self.asked(found.address)) {
+            Matcher::Blocks(tables) => match tables.told(found.address, self.mapped) {
                 Some(block) => Some(Some(block)),
                 None => None,
             },
@@ -223,25 +244,15 @@ impl Filter<'_> {
     /// Returns whether `-o` prints an address or network of a line: whether it counts and is in the
     /// list. With blocks it prints none, since `-o` is not given together with `--longest`.
     pub(crate) fn prints(&self, line: &[u8], found: &Found) -> bool {
-        self.is_of_family(&found.address) && self.is_listed(line, found)
+        self.is_of_family(line, found) && self.is_listed(line, found)
     }
 
     // Returns whether an address or network of a line is in the list.
     fn is_listed(&self, line: &[u8], found: &Found) -> bool {
         match &self.listed {
-            Matcher::Addresses(sets) => sets.has(self.asked(found.address)),
+            Matcher::Addresses(sets) => sets.tests_form(found.address, self.mapped),
             Matcher::Networks(set) => covers(set, self.mapped, &line[found.start..found.end]),
             Matcher::Blocks(_) => false,
-        }
-    }
-
-    // Returns the address that is looked up in the list.
-    #[inline(always)]
-    fn asked(&self, address: IpAddr) -> IpAddr {
-        if self.mapped {
-            address.to_canonical()
-        } else {
-            address
         }
     }
 

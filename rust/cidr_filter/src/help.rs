@@ -24,7 +24,7 @@ Prints the lines of logs whose address is in a list of IP networks.
     "
     -o              print the addresses that are in a network, and with --networks the networks, one
                     on each line, instead of lines. Not with -v or --longest
-    --mapped        treat an address ::ffff:A.B.C.D of a line as A.B.C.D
+    --mapped        an address ::ffff:A.B.C.D of a line is in a network if A.B.C.D is, too
     -4              only IPv4 addresses count, as if a line had no others. Not with -6, --nth or
                     --after
     -6              only IPv6 addresses count. Not with -4, --nth or --after

@@ -64,9 +64,36 @@ impl Sets {
 }
 
 impl Sets {
-    /// The same as `contains`, with a contract that states the result as a test.
-    pub(crate) fn has(&self, address: IpAddr) -> bool {
-        self.contains(address)
+    /// Returns whether the address is in one of the sets, or, if `mapped`, whether the IPv4 address
+    /// of an IPv4-mapped one is.
+    #[inline(always)]
+    pub(crate) fn has_form(&self, address: IpAddr, mapped: bool) -> bool {
+        if mapped {
+            self.has_mapped(address)
+        } else {
+            self.contains(address)
+        }
+    }
+
+    // The same if `mapped`.
+    fn has_mapped(&self, address: IpAddr) -> bool {
+        match address {
+            IpAddr::V4(_) => self.contains(address),
+            IpAddr::V6(_) => self.has_either(address.to_canonical(), address),
+        }
+    }
+
+    // Returns whether one of two addresses is in one of the sets.
+    fn has_either(&self, first: IpAddr, second: IpAddr) -> bool {
+        if first == second {
+            return self.contains(first);
+        }
+        self.contains(first) || self.contains(second)
+    }
+
+    /// The same as `has_form`, with a contract that states the result as a test.
+    pub(crate) fn tests_form(&self, address: IpAddr, mapped: bool) -> bool {
+        self.has_form(address, mapped)
     }
 }
 
@@ -83,8 +110,24 @@ impl Tables {
         })
     }
 
-    /// Returns the longest block that contains the address, or `None` if none does.
-    pub(crate) fn longest(&self, address: IpAddr) -> Option<IpNetwork> {
+    /// Returns the longest block that contains the address. If `mapped`, that of the IPv4 address
+    /// of an IPv4-mapped one comes first. Returns `None` if no block contains either.
+    pub(crate) fn told(&self, address: IpAddr, mapped: bool) -> Option<IpNetwork> {
+        let asked = asked(mapped, address);
+        match self.longest(asked) {
+            Some(block) => Some(block),
+            None => {
+                if asked == address {
+                    None
+                } else {
+                    self.longest(address)
+                }
+            }
+        }
+    }
+
+    // Returns the longest block that contains the address, or `None` if none does.
+    fn longest(&self, address: IpAddr) -> Option<IpNetwork> {
         match address {
             IpAddr::V4(address) => match self.v4.lookup(address) {
                 Some((block, _)) => Some(IpNetwork::V4(block)),
@@ -95,5 +138,15 @@ impl Tables {
                 None => None,
             },
         }
+    }
+}
+
+/// Returns the address that is looked up first: if `mapped`, the IPv4 address of an IPv4-mapped one.
+#[inline(always)]
+pub(crate) fn asked(mapped: bool, address: IpAddr) -> IpAddr {
+    if mapped {
+        address.to_canonical()
+    } else {
+        address
     }
 }

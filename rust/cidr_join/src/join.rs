@@ -7,7 +7,6 @@ use crate::asked::network_of;
 use crate::found::Found;
 use fosibegan_core::ipnetwork::IpNetwork;
 use cidr_programs::line_addresses::{Area, part_of, picked};
-use cidr_programs::log_programs::unmapping::asked_network;
 use cidr_programs::log_programs::without_address::WithoutAddress;
 
 /// What decides what is printed for a line.
@@ -17,7 +16,7 @@ pub struct Join<'a> {
     pub(crate) area: Area<'a>,
     /// Whether lines are searched for networks as well as addresses.
     pub(crate) networks: bool,
-    /// Whether an IPv4-mapped address or network of a line counts as its IPv4 one.
+    /// Whether an IPv4-mapped address or network of a line counts as its IPv4 one too.
     pub(crate) mapped: bool,
     /// Whether that is printed after the line instead of before it.
     pub(crate) last: bool,
@@ -31,7 +30,7 @@ impl<'a> Join<'a> {
     /// allocate.
     pub(crate) fn find(&self, asked: Option<IpNetwork>) -> Found<'a> {
         match asked {
-            Some(asked) => self.answers.find(asked),
+            Some(asked) => self.answers.find(&asked, self.mapped),
             None => Found::Nothing,
         }
     }
@@ -54,8 +53,8 @@ impl<'a> Join<'a> {
         }
     }
 
-    /// Returns the network of a line that is looked up; that of an address has no other address.
-    /// The line is given without its end.
+    /// Returns the network of a line; that of an address has no other address. The line is given
+    /// without its end.
     pub(crate) fn network_in(&self, line: &[u8]) -> Option<IpNetwork> {
         let Some(part) = part_of(&self.area.part, line) else {
             return None;
@@ -63,9 +62,6 @@ impl<'a> Join<'a> {
         let Some(found) = picked(part, self.area.pick, self.networks) else {
             return None;
         };
-        match network_of(part, &found, self.networks) {
-            Some(network) => Some(asked_network(self.mapped, network)),
-            None => None,
-        }
+        network_of(part, &found, self.networks)
     }
 }

@@ -90,7 +90,7 @@ fn count_asked(
     if is_left_out(join, asked.is_some()) {
         return Ok(());
     }
-    if let Some(number) = numbered.number_of(asked) {
+    if let Some(number) = numbered.number_of(asked, join.mapped) {
         counts.count_number(number);
         return Ok(());
     }

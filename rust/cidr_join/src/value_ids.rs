@@ -11,6 +11,7 @@ use crate::value::Value;
 use fosibegan_core::ipnetwork::{IpNetwork, Ipv4Network, Ipv6Network};
 use fosibegan_core::ipnetwork_index::{IndexedNetwork, RouteIndex};
 use fosibegan_core::ipnetwork_table::PrefixTable;
+use cidr_programs::log_programs::unmapping::asked_network;
 use fosibegan_core::plain_std::alloc::{AllocError, Global};
 
 /// The numbers of the networks of a list, and what each number stands for. The number 0 is for
@@ -57,18 +58,41 @@ impl<'a> ValueIds<'a> {
     }
 
     /// Returns the number that stands for what is printed for the network of a line, or for a line
-    /// without one; `None` if there are no numbers. Does not allocate.
-    pub(crate) fn number_of(&self, asked: Option<IpNetwork>) -> Option<usize> {
+    /// without one; `None` if there are no numbers. If `mapped`, a network of IPv4-mapped addresses
+    /// counts as the one of their IPv4 addresses too. Does not allocate.
+    pub(crate) fn number_of(&self, asked: Option<IpNetwork>, mapped: bool) -> Option<usize> {
         if self.founds.is_empty() {
             return None;
         }
         match asked {
-            Some(asked) => Some(self.number_at(asked)),
+            Some(asked) => Some(self.number_for(&asked, mapped)),
             None => Some(0),
         }
     }
 
     // Returns the number that stands for what is printed for a network.
+    fn number_for(&self, network: &IpNetwork, mapped: bool) -> usize {
+        if mapped {
+            self.number_of_either(asked_network(true, *network), *network)
+        } else {
+            self.number_at(*network)
+        }
+    }
+
+    // Returns the number that stands for what is printed for the first network, or, if that is
+    // nothing, for the second.
+    fn number_of_either(&self, first: IpNetwork, second: IpNetwork) -> usize {
+        if first == second {
+            return self.number_at(first);
+        }
+        let number = self.number_at(first);
+        match self.founds.get(number) {
+            Some(Found::Nothing) => self.number_at(second),
+            _ => number,
+        }
+    }
+
+    // Returns the number that stands for what is printed for a network as it stands.
     fn number_at(&self, asked: IpNetwork) -> usize {
         match asked {
             IpNetwork::V4(asked) => number_in(&self.v4, asked),

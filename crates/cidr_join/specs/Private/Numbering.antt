@@ -5,7 +5,8 @@ use Rattle.std.specs.FinMap.{FinMap, get, entries}
 use Rattle.ipnetwork.specs.declared.ip_network.IpNetwork.{IpNetwork}
 use Rattle.ipnetwork.specs.declared.ip_network.IpNetwork.TheVariants as families
 use Rattle.ipnetwork_family.specs.Network.{Network, network_cmp}
-use Rattle.cidr_join.specs.Joins.{FindsBy}
+use Rattle.log_programs.specs.Unmapping.{asked_network}
+use Rattle.cidr_join.specs.Joins.{FindsBy, FindsEither}
 use Rattle.cidr_join.specs.Longest.{FindsOver}
 use Rattle.cidr_join.specs.Routes.{Values}
 use Rattle.cidr_join.specs.Runs.{answers_by}
@@ -67,8 +68,15 @@ StandsForRoute numbered asked number = (network : Bool) (routes : Routes) → Nu
     → (found : Found) × (slice_get numbered.founds.items number ≡ Some found)
     × FindsBy (answers_by network routes) asked found
 
+-- the number stands for what is found for the first network or, if that is nothing, for the second
+abbrev pub StandsForEither : ValueIds → IpNetwork → IpNetwork → ℕ → Type 0
+StandsForEither numbered first second number = (network : Bool) (routes : Routes)
+    → NumbersRoutes network routes numbered
+    → (found : Found) × (slice_get numbered.founds.items number ≡ Some found)
+    × FindsEither (answers_by network routes) first second found
+
 -- the number stands for what is found for the network of a line, or for a line without one
-abbrev pub StandsFor : Answers → Option IpNetwork → List Found → ℕ → Type 0
-StandsFor by None founds number = slice_get founds number ≡ Some prints.Nothing
-StandsFor by (Some asked) founds number = (found : Found) × (slice_get founds number ≡ Some found)
-    × FindsBy by asked found
+abbrev pub StandsFor : Answers → Bool → Option IpNetwork → List Found → ℕ → Type 0
+StandsFor by mapped None founds number = slice_get founds number ≡ Some prints.Nothing
+StandsFor by mapped (Some asked) founds number = (found : Found) × (slice_get founds number ≡ Some found)
+    × FindsEither by (asked_network mapped asked) asked found
