@@ -9,14 +9,16 @@ use Rattle.ipnetwork.specs.IpNetworkText.{ip_network_text}
 use Rattle.ipnetwork.specs.declared.ip_network.IpNetwork.{IpNetwork}
 use Rattle.ipnetwork.specs.declared.ip_network.IpNetwork.TheVariants.{V4, V6}
 use Rattle.cidr_info.specs.Numbers.{hex_text}
-use Rattle.cidr_info.specs.Zones.{zone_of}
+use Rattle.cidr_info.specs.Zones.{zone_of, zone_at, zone_count}
 use Rattle.cidr_info.specs.declared.field.Field.{Field}
 use Rattle.cidr_info.specs.declared.field.Field.TheVariants as says
+use Rattle.cidr_info.specs.declared.field.Form.{Form}
+use Rattle.cidr_info.specs.declared.field.Form.TheVariants as forms
 
 -- the fields, in the order in which they are printed
 abbrev pub fields : List Field
 fields = says.Address ∷ says.Network ∷ says.Mask ∷ says.Wildcard ∷ says.First ∷ says.Last ∷ says.Hosts
-    ∷ says.Addresses ∷ says.Reverse ∷ says.Integer ∷ says.Hexadecimal ∷ []
+    ∷ says.Addresses ∷ says.Reverse ∷ says.Zones ∷ says.Integer ∷ says.Hexadecimal ∷ []
 
 -- the text of a network without its host bits
 abbrev pub block_text : IpNetwork → List ℕ
@@ -59,16 +61,27 @@ abbrev pub hex_width : IpAddr → ℕ
 hex_width (addresses.V4 address) = 8
 hex_width (addresses.V6 address) = 32
 
--- the value of a field of a network, as text
-abbrev pub value_of : Field → IpNetwork → List ℕ
-value_of says.Address network = canonical_ip (address_of network)
-value_of says.Network network = block_text network
-value_of says.Mask network = canonical_ip (ip_mask_of network)
-value_of says.Wildcard network = canonical_ip (wildcard_of network)
-value_of says.First network = canonical_ip (ip_low network)
-value_of says.Last network = canonical_ip (ip_high network)
-value_of says.Hosts network = hosts_text network
-value_of says.Addresses network = decimal (2 ^ host_bits network)
-value_of says.Reverse network = zone_of network
-value_of says.Integer network = decimal (number_of (address_of network))
-value_of says.Hexadecimal network = hex_text (hex_width (address_of network)) (number_of (address_of network))
+-- how many values of a field are printed: on lines the zones, if they are at most eight, and else the one of whole
+-- octets; in JSON all; alone only the zones. Of every other field it is one
+abbrev pub count_of : Form → Field → IpNetwork → ℕ
+count_of forms.Lines says.Reverse network = if nat_lt 8 (zone_count network) then 1 else 0
+count_of forms.Lines says.Zones network = if nat_lt 8 (zone_count network) then 0 else zone_count network
+count_of form says.Zones network = zone_count network
+count_of forms.Zones field network = 0
+count_of form field network = 1
+
+-- the value of a field of a network, as text; of the zones, the one that comes after `place` others
+abbrev pub value_of : Field → IpNetwork → ℕ → List ℕ
+value_of says.Address network place = canonical_ip (address_of network)
+value_of says.Network network place = block_text network
+value_of says.Mask network place = canonical_ip (ip_mask_of network)
+value_of says.Wildcard network place = canonical_ip (wildcard_of network)
+value_of says.First network place = canonical_ip (ip_low network)
+value_of says.Last network place = canonical_ip (ip_high network)
+value_of says.Hosts network place = hosts_text network
+value_of says.Addresses network place = decimal (2 ^ host_bits network)
+value_of says.Reverse network place = zone_of network
+value_of says.Zones network place = zone_at network place
+value_of says.Integer network place = decimal (number_of (address_of network))
+value_of says.Hexadecimal network place =
+    hex_text (hex_width (address_of network)) (number_of (address_of network))

@@ -12,15 +12,19 @@ in_network = 0
 abbrev pub json : ℕ
 json = 1
 
+-- the index of the row of `--zones`
+abbrev pub zones : ℕ
+zones = 2
+
 -- the options, in the order of their rows
 abbrev pub entries : List Entry
 entries =
-    long (codes "--in") kinds.Text true ∷ long_flag (codes "--json") ∷ alone (codes "--help")
-    ∷ alone (codes "--version") ∷ alone (codes "--quiet") ∷ []
+    long (codes "--in") kinds.Text true ∷ long_flag (codes "--json")
+    ∷ long_flag (codes "--zones") ∷ alone (codes "--help") ∷ alone (codes "--version") ∷ alone (codes "--quiet") ∷ []
 
--- `--in` may be given only once, and not together with `--json`
+-- `--in` may be given only once, and no two of the three options go together
 abbrev pub pairs : List (ℕ × ℕ)
-pairs = (in_network, in_network) ∷ (in_network, json) ∷ []
+pairs = (in_network, in_network) ∷ (in_network, json) ∷ (in_network, zones) ∷ (json, zones) ∷ []
 
 -- the table has these options and these pairs, and requires no option
 abbrev pub IsOptions : Table → Type 0

@@ -20,6 +20,8 @@ use Rattle.program.specs.Runs.{EndsRun}
 use Rattle.cidr_info.specs.Options as own
 use Rattle.cidr_info.specs.Options.{IsOptions}
 use Rattle.cidr_info.specs.Texts.{infos_text}
+use Rattle.cidr_info.specs.declared.field.Form.{Form}
+use Rattle.cidr_info.specs.declared.field.Form.TheVariants as forms
 use Rattle.cidr_info.specs.Words.{network_in, networks_in, reads_input, words_said}
 
 -- ---- the command line
@@ -57,10 +59,14 @@ within_status (Some outer) all = if not (length all == 0) && all_within outer al
 abbrev pub status_of : Option IpNetwork → List (Option IpNetwork) → ℕ
 status_of outer all = if list_any is_none all then 2 else within_status outer all
 
--- what is printed: nothing if `--in` is given, and else the fields of the networks, as JSON if `--json` is given
+-- the form in which networks are printed
+abbrev pub form_of : List Item → Form
+form_of items =
+    if is_given items own.json then forms.Json else if is_given items own.zones then forms.Zones else forms.Lines
+
+-- what is printed: nothing if `--in` is given, and else the networks, in the form that the options ask for
 abbrev pub answer_text : List Item → List (Option IpNetwork) → List ℕ
-answer_text items all =
-    if is_given items own.in_network then [] else infos_text (is_given items own.json) (networks_in all)
+answer_text items all = if is_given items own.in_network then [] else infos_text (form_of items) (networks_in all)
 
 -- ---- the run
 

@@ -1,11 +1,12 @@
 -- What the words of a command line and the lines of standard input say.
-use Rattle.std.specs.Prelude.{ℕ, ◌==◌, ◌||◌, Bool, true, false, List, [], ◌∷◌, Option, None, Some, Result, Ok, Err}
+use Rattle.std.specs.Prelude.{ℕ, ◌==◌, Bool, true, false, List, [], ◌∷◌, Option, None, Some, Result, Ok, Err}
 use Rattle.std.specs.Prelude.{if◌then◌else◌, codes, bytes_eq}
-use Rattle.std.specs.List.{flat_map, list_any, slice_split}
+use Rattle.std.specs.List.{flat_map, list_any}
+use Rattle.std.specs.Str.Lines.{lines}
 use Rattle.ipnetwork.specs.Computed.IpNetworkText.{ip_network_of}
 use Rattle.ipnetwork.specs.declared.ip_network.IpNetwork.{IpNetwork}
 use Rattle.ipnetwork_family.specs.declared.error.CidrFault.{CidrFault}
-use Rattle.lists.specs.Lines.{trimmed_by}
+use Rattle.lists.specs.Lines.{trimmed}
 use Rattle.options.specs.declared.items.Item.{Item}
 use Rattle.options.specs.declared.items.Item.TheVariants as says
 
@@ -18,10 +19,6 @@ if_read (Err fault) = None
 abbrev pub network_in : List ℕ → Option IpNetwork
 network_in text = if_read (ip_network_of text)
 
--- the byte is a space, a tab or a carriage return
-abbrev pub is_blank : ℕ → Bool
-is_blank byte = byte == 32 || byte == 9 || byte == 13
-
 -- a text without the blanks around it is skipped if it is empty or begins with `#` (byte 35)
 abbrev pub is_skipped : List ℕ → Bool
 is_skipped [] = true
@@ -31,7 +28,7 @@ is_skipped (byte ∷ rest) = byte == 35
 -- empty or a comment
 abbrev pub line_said : List ℕ → List (Option IpNetwork)
 line_said bytes =
-    if is_skipped (trimmed_by is_blank bytes) then [] else network_in (trimmed_by is_blank bytes) ∷ []
+    if is_skipped (trimmed bytes) then [] else network_in (trimmed bytes) ∷ []
 
 -- what lines say, one after another
 abbrev pub lines_said : List (List ℕ) → List (Option IpNetwork)
@@ -46,11 +43,11 @@ is_input item = false
 abbrev pub reads_input : List Item → Bool
 reads_input items = list_any is_input items
 
--- what a word says: the network that it names, if it names one; `-` stands for the lines of `input`, which line feeds
--- (byte 10) separate; an option says nothing
+-- what a word says: the network that it names, if it names one; `-` stands for the lines of `input`, which end as those
+-- of lists; an option says nothing
 abbrev pub word_said : List ℕ → Item → List (Option IpNetwork)
 word_said input (says.File name) =
-    if bytes_eq name (codes "-") then lines_said (slice_split (λ byte. byte == 10) input)
+    if bytes_eq name (codes "-") then lines_said (lines input)
     else network_in name ∷ []
 word_said input item = []
 

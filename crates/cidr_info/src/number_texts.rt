@@ -40,8 +40,8 @@ pub(crate) fn hex_text(number: u128, count: u8) -> ArrayString<VALUE_MAX>
     text
 }
 
-// Appends the last `count` hexadecimal digits of a number.
-fn push_hex(text: &mut ArrayString<VALUE_MAX>, number: u128, count: u8)
+/// Appends the last `count` hexadecimal digits of a number.
+pub(crate) fn push_hex(text: &mut ArrayString<VALUE_MAX>, number: u128, count: u8)
     requires { array_string_len text.old + count ≤ VALUE_MAX }
     ensures bytes { text.new.bytes ≡ text.old.bytes ++ hex_digits count number }
     ensures room { array_string_len text.new ≡ array_string_len text.old + count }

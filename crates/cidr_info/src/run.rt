@@ -4,12 +4,13 @@ ghost use Rattle.std.specs.List.{list_any};
 ghost use Rattle.std.specs.Option.{is_none};
 ghost use Rattle.lines.specs.Outputs.{Writes};
 ghost use Rattle.program.specs.Endings.{ending};
-ghost use Rattle.cidr_info.specs.Runs.{EndsAs, EndsReading, EndsSaid, LacksMemory, FailsWriting, are_right, is_outer_right, outer_of, is_within, all_within, within_status, status_of, answer_text, IsInput, NoInput};
+ghost use Rattle.cidr_info.specs.Runs.{EndsAs, EndsReading, EndsSaid, LacksMemory, FailsWriting, are_right, is_outer_right, outer_of, is_within, all_within, within_status, status_of, form_of, answer_text, IsInput, NoInput};
 ghost use Rattle.cidr_info.specs.Words.{words_said};
 
+use crate::field::Form;
 use crate::help::{HELP, PROGRAM, USAGE, VERSION};
 use crate::printing::put_infos;
-use crate::rows::{IN, JSON, NO_NETWORK, table};
+use crate::rows::{IN, JSON, NO_NETWORK, ZONES, table};
 use crate::said::{Said, network_in};
 use crate::said_words::{reads_input, words_said};
 use crate::telling::{tell_input_fault, tell_refusals};
@@ -205,7 +206,7 @@ fn is_within(outer: IpNetwork, network: Option<IpNetwork>) -> bool
     }
 }
 
-// Writes what waits and, unless `--in` is given, the fields of the networks that these texts name.
+// Writes what waits and, unless `--in` is given, the networks that these texts name.
 fn write_answer<W: Write>(
     items: &[Item<'_>],
     all: &[Said<'_>],
@@ -218,6 +219,19 @@ fn write_answer<W: Write>(
     if is_given(items, IN) {
         return output.finish();
     }
-    put_infos(is_given(items, JSON), all, output)?;
+    put_infos(form_of(items), all, output)?;
     output.finish()
+}
+
+// Returns the form in which networks are printed.
+fn form_of(items: &[Item<'_>]) -> Form
+    ensures { result ≡ form_of items.now }
+{
+    if is_given(items, JSON) {
+        Form::Json
+    } else if is_given(items, ZONES) {
+        Form::Zones
+    } else {
+        Form::Lines
+    }
 }

@@ -1,25 +1,13 @@
 //! What the words of a command line and the lines of standard input say.
-ghost use Rattle.std.specs.Prelude.{◌≡◌, ◌==◌, ◌++◌, IfOk, OnOk};
-ghost use Rattle.std.specs.List.{slice_split};
+ghost use Rattle.std.specs.Prelude.{◌≡◌, ◌++◌, IfOk, OnOk};
+ghost use Rattle.std.specs.Str.Lines.{lines, strip_carriage_return};
 ghost use Rattle.cidr_info.specs.Words.{is_input, is_skipped, line_said, lines_said, word_said, words_said, reads_input};
 
 use crate::said::Said;
-use lists::{ByteKind, trim};
+use byte_search::find_from;
+use lists::{Blank, trim};
 use options::items::Item;
 use std::alloc::{AllocError, Global};
-
-// The bytes that are trimmed from a line: spaces, tabs and carriage returns.
-struct Blank;
-
-impl ByteKind for Blank {
-    ghost use Rattle.cidr_info.specs.Words.{is_blank};
-
-    ghost is_one = { is_blank };
-
-    fn has(byte: u8) -> bool {
-        byte == b' ' || byte == b'\t' || byte == b'\r'
-    }
-}
 
 /// Whether one of the words is `-`, which stands for standard input.
 pub(crate) fn reads_input(items: &[Item<'_>]) -> bool
@@ -73,15 +61,26 @@ fn put_word<'a>(item: &Item<'a>, input: &'a [u8], all: &mut Vec<Said<'a>>) -> Re
 
 // Appends what the lines of an input say.
 fn put_lines<'a>(input: &'a [u8], all: &mut Vec<Said<'a>>) -> Result<(), AllocError>
-    ensures { OnOk result (all.new.items ≡ all.old.items
-        ++ lines_said (slice_split (λ byte. byte == 10) input.now)) }
+    ensures { OnOk result (all.new.items ≡ all.old.items ++ lines_said (lines input.now)) }
 {
     let mut line = 1u64;
-    for bytes in input.split(|byte| *byte == b'\n') {
-        put_line(line, bytes, all)?;
+    let mut at = 0;
+    'lines: while let Some(end) = find_from(input, at, b'\n') {
+        put_line(line, without_return(&input[at..end]), all)?;
         line = line.saturating_add(1);
+        at = end + 1;
     }
-    Ok(())
+    put_line(line, &input[at..], all)
+}
+
+// Returns a line that a line feed ended, without the one carriage return at its end, if any.
+fn without_return(line: &[u8]) -> &[u8]
+    ensures { result.now ≡ strip_carriage_return line.now }
+{
+    match line.split_last() {
+        Some((byte, front)) if *byte == b'\r' => front,
+        _ => line,
+    }
 }
 
 // Appends what a line says, unless it is empty or a comment.

@@ -1,11 +1,11 @@
 //! The values of the fields of a network.
 ghost use Rattle.std.specs.Prelude.{◌≡◌, ◌≤◌, length};
-ghost use Rattle.cidr_info.specs.Fields.{value_of, wildcard_of, block_text, hosts_of, v4_hosts_of, hosts_text, host_bits, number_of, hex_width};
+ghost use Rattle.cidr_info.specs.Fields.{count_of, value_of, wildcard_of, block_text, hosts_of, v4_hosts_of, hosts_text, host_bits, number_of, hex_width};
 ghost use Rattle.ipnetwork_addr.specs.Either.{canonical_ip};
 
-use crate::field::Field;
+use crate::field::{Field, Form};
 use crate::number_texts::{decimal_text, hex_text, power_text};
-use crate::zone::zone_text;
+use crate::zone::{zone_at, zone_count, zone_text};
 use arrayvec::ArrayString;
 use ipnetwork::{IpAddr, IpNetwork, Ipv4Addr, Ipv4Network, Ipv6Addr};
 use ipnetwork_addr::decimal::push_decimal;
@@ -13,9 +13,26 @@ use ipnetwork_addr::decimal::push_decimal;
 /// The most bytes of a value: two IPv6 addresses with ` - ` between them.
 pub(crate) const VALUE_MAX: usize = 81;
 
-/// Returns the value of a field of a network, as text.
-pub(crate) fn value_of(field: Field, network: &IpNetwork) -> ArrayString<VALUE_MAX>
-    ensures { result.bytes ≡ value_of field network.now }
+/// The most zones that are printed on lines, in place of the one of whole octets.
+const ZONE_LINES: u8 = 8;
+
+/// Returns how many values of a field are printed.
+pub(crate) fn count_of(form: Form, field: Field, network: &IpNetwork) -> u8
+    ensures { result ≡ count_of form field network.now }
+{
+    let count = zone_count(network);
+    match (form, field) {
+        (Form::Lines, Field::Reverse) => u8::from(count > ZONE_LINES),
+        (Form::Lines, Field::Zones) if count > ZONE_LINES => 0,
+        (_, Field::Zones) => count,
+        (Form::Zones, _) => 0,
+        (_, _) => 1,
+    }
+}
+
+/// Returns the value of a field of a network that comes after `place` others, as text.
+pub(crate) fn value_of(field: Field, network: &IpNetwork, place: u8) -> ArrayString<VALUE_MAX>
+    ensures { result.bytes ≡ value_of field network.now place }
 {
     match field {
         Field::Address => address_text(network.ip()),
@@ -27,6 +44,7 @@ pub(crate) fn value_of(field: Field, network: &IpNetwork) -> ArrayString<VALUE_M
         Field::Hosts => hosts_text(network),
         Field::Addresses => power_text(host_bits(network)),
         Field::Reverse => zone_text(network),
+        Field::Zones => zone_at(network, place),
         Field::Integer => decimal_text(number_of(network.ip())),
         Field::Hexadecimal => hex_text(number_of(network.ip()), hex_width(network.ip())),
     }

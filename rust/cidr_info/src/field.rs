@@ -21,16 +21,29 @@ pub enum Field {
     Hosts,
     /// The number of addresses in the network.
     Addresses,
-    /// The zone that holds the network's reverse names.
+    /// The reverse zone of the octets that the prefix length covers in full, or of the nibbles.
     Reverse,
+    /// The reverse zones of the network.
+    Zones,
     /// The address as a decimal number.
     Integer,
     /// The address as a hexadecimal number.
     Hexadecimal,
 }
 
+/// How networks are printed.
+#[derive(Clone, Copy, Debug, PartialEq, Eq)]
+pub enum Form {
+    /// Each value of a field on a line of its own.
+    Lines,
+    /// A JSON object on a line for each network.
+    Json,
+    /// The reverse zones alone, each on a line of its own.
+    Zones,
+}
+
 /// All fields, in the order in which they are printed.
-pub(crate) const FIELDS: [Field; 11] = [
+pub(crate) const FIELDS: [Field; 12] = [
     Field::Address,
     Field::Network,
     Field::Mask,
@@ -40,17 +53,18 @@ pub(crate) const FIELDS: [Field; 11] = [
     Field::Hosts,
     Field::Addresses,
     Field::Reverse,
+    Field::Zones,
     Field::Integer,
     Field::Hexadecimal,
 ];
 
-/// Returns what stands before the value of a field: its name, padded with spaces to the column of
-/// the values, or what opens the string of its JSON member.
-pub(crate) fn before_value(json: bool, field: Field) -> &'static str {
-    if json {
-        before_string(field)
-    } else {
-        padded_name(field)
+/// Returns what stands before a value of a field, which may be the first one: on lines the name of
+/// the field, padded with spaces to the column of the values; in JSON what opens its string.
+pub(crate) fn before_value(form: Form, field: Field, is_first: bool) -> &'static str {
+    match form {
+        Form::Lines => padded_name(field),
+        Form::Json => before_string(field, is_first),
+        Form::Zones => "",
     }
 }
 
@@ -66,14 +80,24 @@ fn padded_name(field: Field) -> &'static str {
         Field::Hosts => "hosts        ",
         Field::Addresses => "addresses    ",
         Field::Reverse => "reverse      ",
+        Field::Zones => "reverse      ",
         Field::Integer => "integer      ",
         Field::Hexadecimal => "hexadecimal  ",
     }
 }
 
-// Returns what stands before the value of a field in a JSON object, up to the quote that opens its
+// Returns what stands before a value of a field in a JSON object, up to the quote that opens its
 // string.
-fn before_string(field: Field) -> &'static str {
+fn before_string(field: Field, is_first: bool) -> &'static str {
+    if is_first {
+        before_first_string(field)
+    } else {
+        ",\""
+    }
+}
+
+// Returns what stands before the first value of a field in a JSON object.
+fn before_first_string(field: Field) -> &'static str {
     match field {
         Field::Address => "{\"address\":\"",
         Field::Network => ",\"network\":\"",
@@ -84,16 +108,18 @@ fn before_string(field: Field) -> &'static str {
         Field::Hosts => ",\"hosts\":\"",
         Field::Addresses => ",\"addresses\":\"",
         Field::Reverse => ",\"reverse\":\"",
+        Field::Zones => ",\"zones\":[\"",
         Field::Integer => ",\"integer\":\"",
         Field::Hexadecimal => ",\"hexadecimal\":\"",
     }
 }
 
-/// Returns what follows the value of a field.
-pub(crate) fn behind_value(json: bool, field: Field) -> &'static str {
-    match (json, field) {
-        (false, _) => "\n",
-        (true, Field::Hexadecimal) => "\"}\n",
-        (true, _) => "\"",
+/// Returns what follows a value of a field, which may be the last one.
+pub(crate) fn behind_value(form: Form, field: Field, is_last: bool) -> &'static str {
+    match (form, field, is_last) {
+        (Form::Json, Field::Zones, true) => "\"]",
+        (Form::Json, Field::Hexadecimal, _) => "\"}\n",
+        (Form::Json, _, _) => "\"",
+        (_, _, _) => "\n",
     }
 }

@@ -31,9 +31,9 @@ pub(crate) fn hex_text(number: u128, count: u8) -> ArrayString<VALUE_MAX> {
     text
 }
 
-// Appends the last `count` hexadecimal digits of a number.
+/// Appends the last `count` hexadecimal digits of a number.
 #[inline]
-fn push_hex(text: &mut ArrayString<VALUE_MAX>, number: u128, count: u8) {
+pub(crate) fn push_hex(text: &mut ArrayString<VALUE_MAX>, number: u128, count: u8) {
     if count > 0 {
         push_hex(text, number / 16, count - 1);
         text.push(hex_digit((number % 16) as u8));

@@ -1,25 +1,25 @@
 // Written by scripts/plain out of crates/cidr_info/src/printing.rt
 
-//! Prints the fields of networks.
+//! Prints networks.
 
-use crate::field::{FIELDS, Field, before_value, behind_value};
+use crate::field::{FIELDS, Field, Form, before_value, behind_value};
 use crate::said::Said;
-use crate::value::value_of;
+use crate::value::{count_of, value_of};
 use fosibegan_core::ipnetwork::IpNetwork;
 use cidr_programs::lines::fault::RunFault;
 use cidr_programs::lines::output::Output;
 use cidr_programs::program::putting::put_all;
 use fosibegan_core::plain_std::io::Write;
 
-/// Prints the fields of the networks that these texts name: as blocks of lines, or as JSON.
+/// Prints the networks that these texts name, in this form.
 pub(crate) fn put_infos<W: Write>(
-    json: bool,
+    form: Form,
     all: &[Said<'_>],
     output: &mut Output<'_, W>,
 ) -> Result<(), RunFault> {
     let mut is_first = true;
     for said in all {
-        put_if_named(is_first, json, said.network(), output)?;
+        put_if_named(is_first, form, said.network(), output)?;
         is_first = stays_first(is_first, said.network());
     }
     Ok(())
@@ -30,55 +30,77 @@ fn stays_first(is_first: bool, network: Option<IpNetwork>) -> bool {
     is_first && network.is_none()
 }
 
-// Prints the fields of a network, if there is one.
+// Prints a network, if there is one.
 fn put_if_named<W: Write>(
     is_first: bool,
-    json: bool,
+    form: Form,
     network: Option<IpNetwork>,
     output: &mut Output<'_, W>,
 ) -> Result<(), RunFault> {
     match network {
-        Some(network) => put_info(separator(is_first, json), json, &network, output),
+        Some(network) => put_info(separator(is_first, form), form, &network, output),
         None => Ok(()),
     }
 }
 
-// Returns what stands before a network: an empty line, but nothing before the first or before JSON.
-fn separator(is_first: bool, json: bool) -> &'static str {
-    if is_first || json { "" } else { "\n" }
+// Returns what stands before a network: an empty line before the lines of each but the first.
+fn separator(is_first: bool, form: Form) -> &'static str {
+    match form {
+        Form::Lines if !is_first => "\n",
+        _ => "",
+    }
 }
 
-// Prints `before`, and then the fields of a network.
+// Prints `before`, and then a network.
 fn put_info<W: Write>(
     before: &str,
-    json: bool,
+    form: Form,
     network: &IpNetwork,
     output: &mut Output<'_, W>,
 ) -> Result<(), RunFault> {
     output.put(before.as_bytes())?;
-    put_rows(json, network, output)
+    put_rows(form, network, output)
 }
 
-// Prints the fields of a network.
+// Prints the fields of a network, as many values of each as are printed in this form.
 fn put_rows<W: Write>(
-    json: bool,
+    form: Form,
     network: &IpNetwork,
     output: &mut Output<'_, W>,
 ) -> Result<(), RunFault> {
     for field in &FIELDS {
-        put_row(json, *field, network, output)?;
+        put_row(form, *field, network, output)?;
     }
     Ok(())
 }
 
-// Prints one field of a network.
+// Prints the values of a field.
 fn put_row<W: Write>(
-    json: bool,
+    form: Form,
     field: Field,
     network: &IpNetwork,
     output: &mut Output<'_, W>,
 ) -> Result<(), RunFault> {
-    let value = value_of(field, network);
-    let (before, behind) = (before_value(json, field), behind_value(json, field));
+    let count = count_of(form, field, network);
+    for place in 0..count {
+        put_value(form, field, network, place, place + 1 == count, output)?;
+    }
+    Ok(())
+}
+
+// Prints a value of a field, which may be the last one.
+fn put_value<W: Write>(
+    form: Form,
+    field: Field,
+    network: &IpNetwork,
+    place: u8,
+    is_last: bool,
+    output: &mut Output<'_, W>,
+) -> Result<(), RunFault> {
+    let value = value_of(field, network, place);
+    let (before, behind) = (
+        before_value(form, field, place == 0),
+        behind_value(form, field, is_last),
+    );
     put_all(&[before, value.as_str(), behind], output)
 }

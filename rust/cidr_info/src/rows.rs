@@ -10,13 +10,17 @@ pub(crate) const IN: usize = 0;
 /// The index of the row of `--json`.
 pub(crate) const JSON: usize = 1;
 
+/// The index of the row of `--zones`.
+pub(crate) const ZONES: usize = 2;
+
 /// What is reported about a value of `--in` that names no network.
 pub(crate) const NO_NETWORK: &str = "not a network";
 
 // The rows of the options.
-const ROWS: [Row; 5] = [
+const ROWS: [Row; 6] = [
     long!("--in", Text, true, NO_NETWORK),
     long!("--json", Flag, false, ""),
+    long!("--zones", Flag, false, ""),
     long!("--help", Alone, false, "not the only argument"),
     long!("--version", Alone, false, "not the only argument"),
     long!(
@@ -27,10 +31,12 @@ const ROWS: [Row; 5] = [
     ),
 ];
 
-// `--in` may be given only once, and not together with `--json`.
-const PAIRS: [Pair; 2] = [
+// `--in` may be given only once, and no two of the three options go together.
+const PAIRS: [Pair; 4] = [
     pair!(IN, IN, "--in is given more than once"),
     pair!(IN, JSON, "--in does not go with --json"),
+    pair!(IN, ZONES, "--in does not go with --zones"),
+    pair!(JSON, ZONES, "--json does not go with --zones"),
 ];
 
 /// Returns the table of the options, none of which is required.

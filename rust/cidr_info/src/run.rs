@@ -4,9 +4,10 @@
 
 use fosibegan_core::plain_std::vec::Vec;
 use fosibegan_core::plain_std::string::String;
+use crate::field::Form;
 use crate::help::{HELP, PROGRAM, USAGE, VERSION};
 use crate::printing::put_infos;
-use crate::rows::{IN, JSON, NO_NETWORK, table};
+use crate::rows::{IN, JSON, NO_NETWORK, ZONES, table};
 use crate::said::{Said, network_in};
 use crate::said_words::{reads_input, words_said};
 use crate::telling::{tell_input_fault, tell_refusals};
@@ -173,7 +174,7 @@ fn is_within(outer: IpNetwork, network: Option<IpNetwork>) -> bool {
     }
 }
 
-// Writes what waits and, unless `--in` is given, the fields of the networks that these texts name.
+// Writes what waits and, unless `--in` is given, the networks that these texts name.
 fn write_answer<W: Write>(
     items: &[Item<'_>],
     all: &[Said<'_>],
@@ -182,6 +183,17 @@ fn write_answer<W: Write>(
     if is_given(items, IN) {
         return output.finish();
     }
-    put_infos(is_given(items, JSON), all, output)?;
+    put_infos(form_of(items), all, output)?;
     output.finish()
+}
+
+// Returns the form in which networks are printed.
+fn form_of(items: &[Item<'_>]) -> Form {
+    if is_given(items, JSON) {
+        Form::Json
+    } else if is_given(items, ZONES) {
+        Form::Zones
+    } else {
+        Form::Lines
+    }
 }

@@ -4,18 +4,10 @@
 
 use fosibegan_core::plain_std::vec::Vec;
 use crate::said::Said;
-use cidr_programs::lists::{ByteKind, trim};
+use fosibegan_core::byte_search::find_from;
+use cidr_programs::lists::{Blank, trim};
 use cidr_programs::options::items::Item;
 use fosibegan_core::plain_std::alloc::{AllocError, Global};
-
-// The bytes that are trimmed from a line: spaces, tabs and carriage returns.
-struct Blank;
-
-impl ByteKind for Blank {
-    fn has(byte: u8) -> bool {
-        byte == b' ' || byte == b'\t' || byte == b'\r'
-    }
-}
 
 /// Whether one of the words is `-`, which stands for standard input.
 pub(crate) fn reads_input(items: &[Item<'_>]) -> bool {
@@ -62,11 +54,21 @@ fn put_word<'a>(item: &Item<'a>, input: &'a [u8], all: &mut Vec<Said<'a>>) -> Re
 // Appends what the lines of an input say.
 fn put_lines<'a>(input: &'a [u8], all: &mut Vec<Said<'a>>) -> Result<(), AllocError> {
     let mut line = 1u64;
-    for bytes in input.split(|byte| *byte == b'\n') {
-        put_line(line, bytes, all)?;
+    let mut at = 0;
+    'lines: while let Some(end) = find_from(input, at, b'\n') {
+        put_line(line, without_return(&input[at..end]), all)?;
         line = line.saturating_add(1);
+        at = end + 1;
     }
-    Ok(())
+    put_line(line, &input[at..], all)
+}
+
+// Returns a line that a line feed ended, without the one carriage return at its end, if any.
+fn without_return(line: &[u8]) -> &[u8] {
+    match line.split_last() {
+        Some((byte, front)) if *byte == b'\r' => front,
+        _ => line,
+    }
 }
 
 // Appends what a line says, unless it is empty or a comment.

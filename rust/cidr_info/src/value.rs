@@ -2,9 +2,9 @@
 
 //! The values of the fields of a network.
 
-use crate::field::Field;
+use crate::field::{Field, Form};
 use crate::number_texts::{decimal_text, hex_text, power_text};
-use crate::zone::zone_text;
+use crate::zone::{zone_at, zone_count, zone_text};
 use fosibegan_core::plain_std::arrayvec::ArrayString;
 use fosibegan_core::ipnetwork::{IpAddr, IpNetwork, Ipv4Addr, Ipv4Network, Ipv6Addr};
 use fosibegan_core::ipnetwork_addr::decimal::push_decimal;
@@ -12,8 +12,23 @@ use fosibegan_core::ipnetwork_addr::decimal::push_decimal;
 /// The most bytes of a value: two IPv6 addresses with ` - ` between them.
 pub(crate) const VALUE_MAX: usize = 81;
 
-/// Returns the value of a field of a network, as text.
-pub(crate) fn value_of(field: Field, network: &IpNetwork) -> ArrayString<VALUE_MAX> {
+/// The most zones that are printed on lines, in place of the one of whole octets.
+const ZONE_LINES: u8 = 8;
+
+/// Returns how many values of a field are printed.
+pub(crate) fn count_of(form: Form, field: Field, network: &IpNetwork) -> u8 {
+    let count = zone_count(network);
+    match (form, field) {
+        (Form::Lines, Field::Reverse) => u8::from(count > ZONE_LINES),
+        (Form::Lines, Field::Zones) if count > ZONE_LINES => 0,
+        (_, Field::Zones) => count,
+        (Form::Zones, _) => 0,
+        (_, _) => 1,
+    }
+}
+
+/// Returns the value of a field of a network that comes after `place` others, as text.
+pub(crate) fn value_of(field: Field, network: &IpNetwork, place: u8) -> ArrayString<VALUE_MAX> {
     match field {
         Field::Address => address_text(network.ip()),
         Field::Network => block_text(network),
@@ -24,6 +39,7 @@ pub(crate) fn value_of(field: Field, network: &IpNetwork) -> ArrayString<VALUE_M
         Field::Hosts => hosts_text(network),
         Field::Addresses => power_text(host_bits(network)),
         Field::Reverse => zone_text(network),
+        Field::Zones => zone_at(network, place),
         Field::Integer => decimal_text(number_of(network.ip())),
         Field::Hexadecimal => hex_text(number_of(network.ip()), hex_width(network.ip())),
     }

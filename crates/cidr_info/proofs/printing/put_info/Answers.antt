@@ -3,7 +3,7 @@ use Rattle.cidr_info.proofs.printing.put_info.Goals as goal
 
 pub returns-in_err-put : goal.returns-in_err-put
 returns-in_err-put g c =
-    let text = info_text c.args.json c.args.network.now in
+    let text = info_text c.args.form c.args.network.now in
     puts_it c.from_residual.result c.args.output.now c.put.new.self (c.as_bytes.result.now ++ text) _
     (ap (λ (t : List ℕ). t ++ text) c.as_bytes.ensures.value)
     (fails_first c.from_residual.result c.args.output.now c.put.new.self c.as_bytes.result.now text (search rules)
@@ -11,7 +11,7 @@ returns-in_err-put g c =
 
 pub returns : goal.returns
 returns g c =
-    let text = info_text c.args.json c.args.network.now in
+    let text = info_text c.args.form c.args.network.now in
     puts_it c.put_rows.result c.args.output.now c.put_rows.new.output (c.as_bytes.result.now ++ text) _
     (ap (λ (t : List ℕ). t ++ text) c.as_bytes.ensures.value)
     (puts_two c.put_rows.result c.args.output.now c.put.new.self c.put_rows.new.output c.as_bytes.result.now text

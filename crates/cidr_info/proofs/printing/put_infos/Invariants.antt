@@ -5,5 +5,5 @@ use Rattle.cidr_info.proofs.printing.put_infos.Given as goal
 abbrev pub invariant-loop-said : goal.invariant-loop-said
 invariant-loop-said g l = (done : List ℕ) × Prints l.initial.output l.output done
     × (l.output.failed ≡ l.initial.output.failed)
-    × (done ++ infos_from l.is_first l.json (networks_in (drop l.said-index l.all)) ≡ infos_text l.json
+    × (done ++ infos_from l.is_first l.form (networks_in (drop l.said-index l.all)) ≡ infos_text l.form
     (networks_in l.all))

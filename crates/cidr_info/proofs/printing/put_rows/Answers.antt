@@ -9,7 +9,7 @@ pub loop-field-preserved : goal.loop-field-preserved
 loop-field-preserved g c =
     let h = c.loop-field.invariant in
     let i = c.loop-field.field-index in
-    let rows = flat_map (row_text c.args.json c.args.network.now) in (
+    let rows = flat_map (row_text c.args.form c.args.network.now) in (
       _,
       puts_more _ _ _ _ _ _ h.0 _ h.1 c.in_ok-put_row.ensures.ok,
       works_on _ _ _ c.in_ok-put_row.ensures.failed h.2,
@@ -20,7 +20,7 @@ pub returns-in_err-put_row : goal.returns-in_err-put_row
 returns-in_err-put_row g c =
     let h = c.loop-field.invariant in
     let i = c.loop-field.field-index in
-    let rows = flat_map (row_text c.args.json c.args.network.now) in
+    let rows = flat_map (row_text c.args.form c.args.network.now) in
     let left = rows (drop (i + 1) fields) in
     puts_it c.from_residual.result c.args.output.now c.put_row.new.output _ _
     (sym (ap (λ (t : List ℕ). h.0 ++ t) (at_drop_more rows fields i _ (omega arith))) ∙ h.3)

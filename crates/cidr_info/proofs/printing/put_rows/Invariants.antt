@@ -5,4 +5,4 @@ use Rattle.cidr_info.proofs.printing.put_rows.Given as goal
 abbrev pub invariant-loop-field : goal.invariant-loop-field
 invariant-loop-field g l = (done : List ℕ) × Prints l.initial.output l.output done
     × (l.output.failed ≡ l.initial.output.failed)
-    × (done ++ flat_map (row_text l.json l.network) (drop l.field-index fields) ≡ info_text l.json l.network)
+    × (done ++ flat_map (row_text l.form l.network) (drop l.field-index fields) ≡ info_text l.form l.network)
