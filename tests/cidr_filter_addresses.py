@@ -5,6 +5,7 @@ row is as it should be, and what was got."""
 import ipaddress
 import itertools
 import json
+import pathlib
 import random
 import re
 
@@ -22,10 +23,11 @@ def address(text):
         return None
 
 
-def of_run(run):
-    """The address of a run, and its text: the run, or the run without a mark at its end, or an IPv4 one without a port."""
+def begun(run):
+    """The address that begins a run, and its text: the run, or the run without a mark at its end, or an IPv4 one without a
+    port."""
     tries = [run]
-    if run[-1] in ".:":
+    if run[-1:] in (".", ":"):
         tries.append(run[:-1])
     for text in tries:
         if address(text):
@@ -34,6 +36,17 @@ def of_run(run):
     if port and address(port[1]) and address(port[1]).version == 4:
         return port[1], address(port[1])
     return None
+
+
+def behind_word(text):
+    """What is behind the first colon, if a word is before it: letters, digits, `.` and `_`, one of which no address has."""
+    word, _, rest = text.partition(":")
+    return rest if re.search("[g-zG-Z_]", word) and "/" not in word else ""
+
+
+def of_run(run):
+    """The address of a run, and its text: the one that begins it, or begins what is behind a word."""
+    return begun(run) or begun(behind_word(run))
 
 
 def of_line(line):
@@ -134,6 +147,18 @@ def texts(program, folder):
             yield f"{name}, {words}", got == (output, b"", 0 if output else 1), got
 
 
+def value_after(line, text):
+    """What is behind the text, and behind blanks, quotation marks and `[`, if an address is there, else nothing. The text
+    does not count inside a name."""
+    for place in re.finditer(f"(?={re.escape(text)})", line):
+        if not re.fullmatch("[A-Za-z0-9._-]{2}", line[max(place.start() - 1, 0) : place.start() + 1]):
+            rest, before = line[place.start() + len(text) :], ""
+            while rest and (rest[0] in " \t[" or rest[0] in "\"'" and rest[0] != before):
+                rest, before = rest[1:], rest[0]
+            return rest if any(map(of_run, re.findall(r"^[A-Za-z0-9.:_]+", rest))) else ""
+    return ""
+
+
 def after(program, folder):
     """With --after the first address behind a text."""
     networks = [ipaddress.ip_network(text) for text in LIST]
@@ -141,7 +166,7 @@ def after(program, folder):
     for name, lines in logs(random.Random(7)):
         log = "".join(f"{line}\n" for line in lines).encode()
         for text in ("DST=", "from ", '"', ",", " ", "1", "peers"):
-            first = lambda line: [found for _, found in of_line(line.split(text, 1)[1])][:1] if text in line else []
+            first = lambda line: [found for _, found in of_line(value_after(line, text))][:1]
             output = wanted(lines, networks, first, False, False).encode()
             got = limits.run([program, "--after", text, *lists], input=log, capture_output=True)
             got = (got.stdout, got.stderr, got.returncode)
@@ -186,7 +211,7 @@ def parts(program, folder):
     lists = [word for text in LIST for word in ("-e", text)]
     places = [(["-k2", "-d", '"'], lambda line: field(line, 2, '"'), "in field 2"), (["-d,"], lambda line: field(line, 1, ","), "in field 1")]
     places += [(["-wk10"], lambda line: (line.split() + [""] * 10)[9], "in word 10"), ([], lambda line: line, "anywhere in it")]
-    places += [(["--after", "DST="], lambda line: line.split("DST=", 1)[1] if "DST=" in line else "", "after DST=")]
+    places += [(["--after", "DST="], lambda line: value_after(line, "DST="), "after DST=")]
     for name, lines in logs(random.Random(8)):
         log = "".join(f"{line}\n" for line in lines).encode()
         for (place, part, told), which in itertools.product(places, ("", "first", "last", "2", "3")):
@@ -205,7 +230,7 @@ def made_up_runs(program, folder):
     """Lines of pieces of addresses, and bytes beside them: those that have an address."""
     rng = random.Random(5)
     pieces = ["10.1.1.1", "1.2.3", "2001:db8::1", "::", "::ffff:1.2.3.4", "1:2:3:4:5:6:7:8", "255.255.255.255", "256.1.1.1", "01.2.3.4"]
-    pieces += [*".:_:. /[]\"=,-@x0a9Gz", ":80", ":65535", ":123456", "12:34:56", "fe80::1%eth0", "ab", "\t", "\xe9"]
+    pieces += [*".:_:. /[]\"=,-@x0a9Gz", ":80", ":65535", ":123456", "outside:", "ip6:", "dad:", "12:34:56", "fe80::1%eth0", "ab", "\t", "\xe9"]
     lines = ["".join(rng.choice(pieces) for _ in range(rng.randrange(1, 7))) for _ in range(60000)]
     output = "".join(f"{line}\n" for line in lines if of_line(line)).encode()
     log = "".join(f"{line}\n" for line in lines).encode()
@@ -227,9 +252,10 @@ def network(text):
 def of_stretch(stretch):
     """The network of a stretch of letters, digits, `.`, `:`, `_` and `/`, or its addresses, as networks, with their texts."""
     if stretch.find("/") > 0:
-        for text in [stretch] + ([stretch[:-1]] if stretch[-1] in ".:" else []):
-            if network(text):
-                return [(text, network(text))]
+        for part in (stretch, behind_word(stretch)):
+            for text in [part] + ([part[:-1]] if part[-1:] in (".", ":") else []):
+                if network(text):
+                    return [(text, network(text))]
     return [(text, network(found)) for text, found in of_line(stretch)]
 
 
@@ -267,8 +293,8 @@ def network_logs(rng):
             return f"10.{rng.randrange(4)}.0.0/255.{rng.choice([255, 254, 128, 0])}.0.0"
         text = str(ipaddress.ip_address(rng.choice([10 << 24, 192 << 24 | 2 << 8, 11 << 24]) | rng.getrandbits(rng.choice([2, 8, 16]))))
         return text if kind == 3 else f"{text}/{rng.choice([7, 8, 9, 16, 22, 23, 24, 25, 30, 32, 33, 99, 256])}"
-    shapes = ["{} to {}", "SRC={} DST={} x", "[{}] ({})", "{}, {}.", "route {}: via {}", "http://{}/a {}", "{}/x {}/", "{}/24/8 {}:80", "\"{}\";{}", "{}-{}", "a", "x/y {}"]
-    return [rng.choice(shapes).format(one(), one()) for _ in range(3000)]
+    shapes = ["{} to {}", "SRC={} DST={} x", "[{}] ({})", "{}, {}.", "route {}: via {}", "http://{}/a {}", "{}/x {}/", "{}/24/8 {}:80", "\"{}\";{}", "{}-{}", "a", "x/y {}", "ip4:{} ip6:{}", "dad:{} x/y:{} z:{}"]
+    return [rng.choice(shapes).format(one(), one(), one()) for _ in range(3000)]
 
 
 # Two halves of a network and an end of it that overlaps neither, a network of IPv6, and one of IPv4-mapped addresses
@@ -286,7 +312,7 @@ def networks(program, folder):
     for words, found in [
         (["-a"], anywhere), ([], first), (["--nth", "first"], lambda line: nth(anywhere(line), "first")), (["--nth", "last"], lambda line: nth(anywhere(line), "last")),
         (["-a", "--nth", "2"], lambda line: nth(anywhere(line), "2")), (["-w", "-k3"], lambda line: [found for found in [network((line.split() + [""] * 3)[2])] if found]),
-        (["-a", "-d,", "-k2"], lambda line: anywhere(field(line, 2, ","))), (["--after", "DST="], lambda line: anywhere(line.split("DST=", 1)[1])[:1] if "DST=" in line else []),
+        (["-a", "-d,", "-k2"], lambda line: anywhere(field(line, 2, ","))), (["--after", "DST="], lambda line: anywhere(value_after(line, "DST="))[:1]),
     ]:
         for more in ([], ["-v"], ["--mapped"]):
             forms = (lambda one: {one, unmapped(one)}) if more == ["--mapped"] else lambda one: {one}
@@ -304,6 +330,17 @@ def networks(program, folder):
         log = 4 * (piece * (1048000 // len(piece)) + " 10.0.0.0/8\n").encode()
         got = limits.run([program, "--networks", "-ac", *lists], input=log, capture_output=True)
         yield f"networks, long lines of {piece}", (got.stdout, got.stderr, got.returncode) == (b"4\n", b"", 0), got
+
+
+def formats(program, folder):
+    """The addresses of lines in the shapes of many programs' logs, as the table of PROGRAMS has them."""
+    page = (pathlib.Path(__file__).parent.parent / "docs/PROGRAMS.md").read_text()
+    rows = re.findall(r"^\| ([^|`]+) \| `([^|]+)` \| ([^|]+) \|$", page, re.M)
+    yield "the table of formats", len(rows) >= 35, len(rows)
+    for name, line, texts in rows:
+        output = "".join(f"{text}\n" for text in re.findall("`([^`]+)`", texts))
+        got = limits.run([program, "-ao", "-e", "0.0.0.0/0", "-e", "::/0"], input=f"{line}\n".encode(), capture_output=True)
+        yield f"a line of {name}", got.stdout.decode() == output, got
 
 
 def families(program, folder):

@@ -1,5 +1,5 @@
 -- Values at which a misreading of the definitions would show.
-use Rattle.cidr_filter.proofs.Words.{◌≡◌, ℕ, ◌-◌, length, List, [], ◌∷◌, ◌++◌, Bool, true, false, inl, inr, refl, ap, append-nil, arith, codes, map, bytes_eq, Some, None, digits, v6_of, gap_below, IpAddr, Spelled, address_of, before_port, address_in, IpMember, V4, V6, field_of, named_network, network_in, IsListed, IsVerdict, addresses_in, is_selected, is_refused, mark_of, shown, shown_of, LogLine, log_lines, ended_lines, content, printed, ended, unended, IsStored, IsLongestBlock, asked, covers_named, label_of, WithoutAddress, Filter, OutputMode, Area, whole, anywhere, after, Verdict, Addresses, Networks, Blocks, Sets, Tables}
+use Rattle.cidr_filter.proofs.Words.{◌≡◌, ℕ, ◌-◌, length, List, [], ◌∷◌, ◌++◌, Bool, true, false, inl, inr, refl, ap, append-nil, arith, codes, map, bytes_eq, Some, None, digits, v6_of, gap_below, IpAddr, Spelled, address_of, before_port, begun_by, behind_word, address_in, IpMember, V4, V6, field_of, named_network, network_begun_by, network_in, IsListed, IsVerdict, addresses_in, is_selected, is_refused, mark_of, shown, shown_of, LogLine, log_lines, ended_lines, content, printed, ended, unended, IsStored, IsLongestBlock, asked, covers_named, label_of, WithoutAddress, Filter, OutputMode, Area, whole, anywhere, after, Verdict, Addresses, Networks, Blocks, Sets, Tables}
 use Rattle.ipnetwork_addr.specs.declared.ip.IpAddr.TheVariants as addresses
 use Rattle.log_programs.specs.LogStats.{nothing}
 use Rattle.log_programs.specs.declared.without_address.WithoutAddress.TheVariants as without
@@ -117,13 +117,13 @@ address_in_a_word = refl
 
 pub addresses_anywhere : asked_in (looking anywhere false) (codes "a=10.0.0.1:80 [10.0.0.2]") ≡ addresses.V4 0x0a000001
     ∷ addresses.V4 0x0a000002 ∷ []
-unfolding address_in before_port address_of digits v6_of gap_below
+unfolding address_in behind_word begun_by before_port address_of digits v6_of gap_below
 addresses_anywhere = refl
 
 -- only the first address after the first occurrence of a text
 pub address_after : asked_in (looking (after (codes "SRC=")) false) (codes "DST=10.0.0.9 SRC=10.0.0.1 SRC=10.0.0.2")
     ≡ addresses.V4 0x0a000001 ∷ []
-unfolding address_in before_port address_of digits v6_of gap_below
+unfolding address_in behind_word begun_by before_port address_of digits v6_of gap_below
 address_after = refl
 
 pub no_text : asked_in (looking (after (codes "SRC=")) false) (codes "DST=10.0.0.9") ≡ []
@@ -142,17 +142,17 @@ address_as_it_is = refl
 pub one_family : (asked_in (record (looking anywhere false) { family = families.V4 })
     (codes "::1 10.0.0.1") ≡ addresses.V4 0x0a000001 ∷ [])
     × (asked_in (record (looking anywhere false) { family = families.V6 }) (codes "::1 10.0.0.1") ≡ addresses.V6 1 ∷ [])
-unfolding address_in before_port address_of digits v6_of gap_below
+unfolding address_in behind_word begun_by before_port address_of digits v6_of gap_below
 one_family = (refl, refl)
 
 -- with `--networks`, a network is found with its text; without it, only its address
 pub network_found : addresses_in (record (looking anywhere false) { listed = Networks [] })
     (codes "to 10.0.0.1/24.") ≡ record { text = codes "10.0.0.1/24"; address = addresses.V4 0x0a000001 } ∷ []
-unfolding network_in named_network address_in before_port address_of digits v6_of gap_below
+unfolding network_in network_begun_by named_network address_in behind_word begun_by before_port address_of digits v6_of gap_below
 network_found = refl
 
 pub address_of_a_network : addresses_in (looking anywhere false) (codes "to 10.0.0.1/24.") ≡ ten ∷ []
-unfolding address_in before_port address_of digits v6_of gap_below
+unfolding address_in behind_word begun_by before_port address_of digits v6_of gap_below
 address_of_a_network = refl
 
 -- a network within the block of a list is in the list, with or without host bits; a larger network, one beside the
@@ -167,7 +167,7 @@ networks_covered = refl
 pub second_address_inside : ¬ (IsListed (looking anywhere false) ten)
     → IsListed (looking anywhere false) (record { text = codes "10.0.0.2"; address = addresses.V4 0x0a000002 })
     → IsVerdict (looking anywhere false) (codes "10.0.0.1 10.0.0.2") (verdicts.Inside None)
-unfolding address_in before_port address_of digits v6_of gap_below
+unfolding address_in behind_word begun_by before_port address_of digits v6_of gap_below
 second_address_inside not listed = (omega arith, inr (not, inl (listed, refl)))
 
 -- a line of 1,048,576 bytes is not too long, and one of a byte more is
@@ -266,12 +266,12 @@ addresses_of_ten = record (looking anywhere false) {
 
 pub addresses_selected : output_of addresses_of_ten 1 (verdicts.Inside None)
     (ended (codes "a=10.0.0.1:80 b=11.0.0.1,10.0.0.2.")) ≡ codes "10.0.0.1\n10.0.0.2\n"
-unfolding address_in before_port address_of digits v6_of gap_below
+unfolding address_in behind_word begun_by before_port address_of digits v6_of gap_below
 addresses_selected = refl
 
 pub addresses_named : output_of (record addresses_of_ten { name = codes "log" }) 1 (verdicts.Inside None)
     (ended (codes "10.0.0.1 10.0.0.2")) ≡ codes "log:10.0.0.1\nlog:10.0.0.2\n"
-unfolding address_in before_port address_of digits v6_of gap_below
+unfolding address_in behind_word begun_by before_port address_of digits v6_of gap_below
 addresses_named = refl
 
 pub no_addresses_counted : output_of (record addresses_of_ten { shows = shows.Count }) 1 (verdicts.Inside None)

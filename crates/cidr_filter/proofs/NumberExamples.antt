@@ -1,5 +1,5 @@
 -- Lines that are numbered.
-use Rattle.cidr_filter.proofs.Words.{◌≡◌, ℕ, List, [], ◌∷◌, true, false, inl, inr, refl, sym, true≢false, none-some, codes, None, Some, digits, v6_of, gap_below, address_of, before_port, address_in, IsVerdict, number_head, Filters, fresh, tally_with, Filter, Blocks, Tables, LogLine, ended}
+use Rattle.cidr_filter.proofs.Words.{◌≡◌, ℕ, List, [], ◌∷◌, true, false, inl, inr, refl, sym, true≢false, none-some, codes, None, Some, digits, v6_of, gap_below, address_of, before_port, begun_by, behind_word, address_in, IsVerdict, number_head, Filters, fresh, tally_with, Filter, Blocks, Tables, LogLine, ended}
 use Rattle.cidr_filter.specs.declared.filter.OutputMode.TheVariants as shows
 use Rattle.cidr_filter.specs.declared.filter.Verdict.TheVariants as verdicts
 use Rattle.log_programs.specs.declared.without_address.WithoutAddress.TheVariants as without
@@ -22,7 +22,7 @@ number_behind_the_name tables = refl
 -- the number precedes each address of its line
 pub addresses_numbered : output_of (record addresses_of_ten { numbered = true }) 2 (verdicts.Inside None)
     (ended (codes "10.0.0.1 10.0.0.2")) ≡ codes "2:10.0.0.1\n2:10.0.0.2\n"
-unfolding address_in before_port address_of digits v6_of gap_below
+unfolding address_in behind_word begun_by before_port address_of digits v6_of gap_below
 addresses_numbered = refl
 
 pub no_number_of_a_count : output_of (record numbering { shows = shows.Count }) 7 (verdicts.Inside None)

@@ -35,12 +35,12 @@ pub use Rattle.ipnetwork_family.specs.Network.{Network, network_cmp}
 pub use Rattle.ipnetwork_sets.specs.IpSets.{IsIpAddressSet}
 pub use Rattle.line_addresses.proofs.Areas.{after, anywhere, whole}
 pub use Rattle.line_addresses.proofs.Picks.{each_is_one}
-unfoldable pub use Rattle.line_addresses.specs.Addresses.{address_in, address_of, before_port}
+unfoldable pub use Rattle.line_addresses.specs.Addresses.{address_in, address_of, before_port, begun_by, behind_word}
 pub use Rattle.line_addresses.specs.Addresses.{Spelled, spelled}
 pub use Rattle.line_addresses.specs.Areas.{each_in, each_of, part_of, picked, picked_in, spelled_in}
 pub use Rattle.line_addresses.specs.Fields.{field_of}
 pub use Rattle.line_addresses.specs.Found.{IsNextOf, spelled_at}
-unfoldable pub use Rattle.line_addresses.specs.Networks.{named_network, network_in}
+unfoldable pub use Rattle.line_addresses.specs.Networks.{named_network, network_begun_by, network_in}
 pub use Rattle.line_addresses.specs.Networks.{found_of}
 pub use Rattle.line_addresses.specs.declared.area.Area.{Area}
 pub use Rattle.line_addresses.specs.declared.area.Pick.{Pick}

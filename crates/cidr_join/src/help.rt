@@ -20,8 +20,8 @@ Prints the lines of logs, each with the value that a list gives its address.
                     first refused line ends the program before any log is read",
     "
     -a              the address is the first one anywhere in a line, or anywhere in the field that
-                    -k, -d or -w select: 10.1.1.1:51234, [10.1.1.1], SRC=10.1.1.1 and
-                    [2001:db8::1]:443 have one; v10.1.2.3, 1.2.3.4.5 and 12:34:56 have none",
+                    -k, -d or -w select: 10.1.1.1:51234, [10.1.1.1], SRC=10.1.1.1, addr:10.1.1.1
+                    and [2001:db8::1]:443 have one; v10.1.2.3, 1.2.3.4.5 and 12:34:56 have none",
     "
     --mapped        look up an address ::ffff:A.B.C.D of a line as A.B.C.D first, and if no network
                     has that, as it stands

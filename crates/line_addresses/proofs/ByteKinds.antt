@@ -1,11 +1,6 @@
 -- The bytes of address texts, as a test.
-use Rattle.line_addresses.proofs.Words.{◌≡◌, ℕ, ◌≤◌, ◌==◌, ◌⊎◌, Bool, true, false, refl, arith, inl, inr, is_in_range, eqb-true, nat_tests, IsAddressByte, Digit, UpperHex, LowerHex, Dot, Colon}
+use Rattle.line_addresses.proofs.Words.{◌≡◌, ℕ, ◌≤◌, ◌==◌, ◌⊎◌, Bool, true, false, refl, arith, inl, inr, is_in_range, eqb-true, nat_tests, is_address_byte, IsAddressByte, Digit, UpperHex, LowerHex, Dot, Colon}
 use Rattle.std.proofs.Common.{◌||◌}
-
--- whether a byte may occur in an address text
-abbrev pub is_address_byte : ℕ → Bool
-is_address_byte byte = is_in_range 48 57 byte || is_in_range 65 70 byte || is_in_range 97 102
-    byte || byte == 46 || byte == 58
 
 pub passes : (byte : ℕ) → IsAddressByte byte → is_address_byte byte ≡ true
 passes byte (Digit low high) = grind (arith, nat_tests)

@@ -1,5 +1,5 @@
 -- The address of a text, by the laws of address texts.
-use Rattle.line_addresses.proofs.Words.{◌≡◌, ◌↔◌, ℕ, zero, suc, ◌-◌, Bool, true, false, cond, List, ◌∷◌, length, take, Option, None, Some, refl, ap, ◌∙◌, Ok, AllByRecursion, position_or_len, after_first, answer_from, NamesIp, NamesV4, NamesV6, IsAddressByte, IpAddr, V4, V6, address_of, with_text, spelled, is_colon, is_port, before_port, address_in}
+use Rattle.line_addresses.proofs.Words.{◌≡◌, ◌↔◌, ℕ, zero, suc, ◌-◌, Bool, true, false, cond, List, ◌∷◌, length, take, Option, None, Some, refl, ap, ◌∙◌, Ok, AllByRecursion, position_or_len, after_first, answer_from, NamesIp, NamesV4, NamesV6, IsAddressByte, IpAddr, V4, V6, address_of, with_text, spelled, is_colon, is_port, before_port, begun_by}
 use Rattle.line_addresses.proofs.Shown.{nothing_named, no_rest, left}
 
 -- what the reader returns is what the text names
@@ -39,7 +39,7 @@ module _ (named : (text : List ℕ) (address : IpAddr) → NamesIp text address 
       none_if (is_port (after_first is_colon (byte ∷ run))) (take (position_or_len is_colon (byte ∷ run)) (byte ∷ run))
       (none_taken (position_or_len is_colon (byte ∷ run)) byte run other)
 
-  pub none_in : (byte : ℕ) (run : List ℕ) → ¬ (IsAddressByte byte) → address_in (byte ∷ run) ≡ None
+  pub none_in : (byte : ℕ) (run : List ℕ) → ¬ (IsAddressByte byte) → begun_by (byte ∷ run) ≡ None
   none_in byte run other =
       left (byte ∷ run) (none_begun byte run other)
       (no_rest (byte ∷ run) (none_taken (length (byte ∷ run) - 1) byte run other))

@@ -1,4 +1,5 @@
 pub mod Areas
+pub mod Behind
 pub mod ByteKinds
 pub mod Examples
 pub mod FirstBytes
@@ -18,4 +19,6 @@ pub mod Ports
 pub mod Shown
 pub mod SlashRuns
 pub mod StretchNetworks
+pub mod ValueExamples
+pub mod Values
 pub mod Words

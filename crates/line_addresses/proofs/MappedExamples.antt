@@ -1,6 +1,6 @@
 -- The IPv4-mapped addresses whose octets are all 0 or 255: their texts, numbers and IPv4 addresses, by Python's
 -- `ipaddress`. Each of these computes.
-use Rattle.line_addresses.proofs.Words.{◌≡◌, ℕ, List, [], ◌∷◌, ◌++◌, refl, codes, map, digits, canonical_v6, v6_of, gap_below, unmapped, IpAddr, V4, V6, address_of, before_port, address_in, addresses_of}
+use Rattle.line_addresses.proofs.Words.{◌≡◌, ℕ, List, [], ◌∷◌, ◌++◌, refl, codes, map, digits, canonical_v6, v6_of, gap_below, unmapped, IpAddr, V4, V6, address_of, before_port, begun_by, behind_word, address_in, addresses_of}
 
 abbrev texts : List (List ℕ)
 texts =
@@ -34,12 +34,12 @@ abbrev in_a_line : List ℕ → List IpAddr
 in_a_line text = map (λ one. one.address) (addresses_of (codes "from " ++ text ++ codes ", seen"))
 
 pub are_found : map in_a_line texts ≡ map (λ number. V6 number ∷ []) mapped
-unfolding address_in before_port address_of digits v6_of gap_below
+unfolding address_in behind_word begun_by before_port address_of digits v6_of gap_below
 are_found = refl
 
 -- the same in hex, in either case
 pub are_found_in_hex : map in_a_line (codes "::ffff:0:0" ∷ codes "::FFFF:0:ff" ∷ codes "::ffff:ff00:FF"
     ∷ codes "0:0:0:0:0:ffff:ffff:ffff" ∷ [])
     ≡ (V6 0xffff00000000 ∷ []) ∷ (V6 0xffff000000ff ∷ []) ∷ (V6 0xffffff0000ff ∷ []) ∷ (V6 0xffffffffffff ∷ []) ∷ []
-unfolding address_in before_port address_of digits v6_of gap_below
+unfolding address_in behind_word begun_by before_port address_of digits v6_of gap_below
 are_found_in_hex = refl

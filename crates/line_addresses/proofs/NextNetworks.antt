@@ -1,7 +1,8 @@
 -- The next network or address of a line, stretch by stretch.
-use Rattle.line_addresses.proofs.Words.{◌≡◌, ℕ, ◌+◌, ◌-◌, ◌<◌, ◌≤◌, Bool, true, false, not, List, [], ◌∷◌, ◌++◌, length, length-take, take, drop, get_or, None, Some, refl, sym, ap, subst, ◌∙◌, arith, inl, inr, IfSome, MatchOption, flat_map, slice_index, All, cons_option, slice_range, cases_lt, drop_all, drop_more, drop-drop, drop-take, take-take, IpAddr, addresses_of, IsNextOf, StopsARun, spelled_at, is_stretch_byte, network_in, networks_in, networks_of, or_addresses, has_slash, IsStretchEnd, Shows, Found}
+use Rattle.line_addresses.proofs.Words.{◌≡◌, ℕ, ◌+◌, ◌-◌, ◌<◌, ◌≤◌, Bool, true, false, not, List, [], ◌∷◌, ◌++◌, length, length-take, take, drop, get_or, None, Some, refl, sym, ap, subst, ◌∙◌, arith, inl, inr, IfSome, MatchOption, flat_map, slice_index, All, cons_option, slice_range, cases_lt, drop_all, drop_more, drop-drop, drop-take, addresses_of, IsNextOf, IsPicked, StopsARun, spelled_at, is_stretch_byte, network_in, networks_in, networks_of, or_addresses, has_slash, IsStretchEnd, Found}
 use Rattle.std.specs.Prelude.{Option}
 use Rattle.line_addresses.proofs.LineParts.{Gathers, flattens, part_at, cut_at, at_end}
+use Rattle.line_addresses.proofs.NextRuns.{inner_text}
 use Rattle.line_addresses.proofs.Shown.{nothing_shown}
 use Rattle.line_addresses.proofs.StretchNetworks.{none_without, slash_first, slash_left}
 
@@ -20,22 +21,18 @@ stretches = flattens networks_in nothing_in
 
 -- ---- the first network or address of a stretch
 
-pub one_network : (stretch : List ℕ) (address : IpAddr) (size : ℕ) → 0 < length stretch
-    → Shows (network_in stretch) stretch address size
-    → IsNextOf networks_in stretch 0 (record { address = address; start = 0; end = size; next = length stretch })
-one_network stretch address size some shows =
-    let count : size ≡ size - 0 = omega arith in
-    record {
-      behind = omega arith;
-      text = omega arith;
-      before_next = shows.within;
-      further = some;
-      within = omega arith;
-      first = ap (λ o. or_addresses o stretch) shows.is
-          ∙ ap (λ n. record { text = take n stretch; address = address } ∷ []) count
-          ∙ ap (λ l. spelled_at stretch (record { address = address; start = 0; end = size; next = length stretch })
-          ∷ l) (sym (ap networks_in (drop_all (length stretch) stretch (omega arith)) ∙ nothing_in));
-    }
+pub one_network : (stretch : List ℕ) (found : Found) → 0 < length stretch → IsPicked (network_in stretch) stretch found
+    → IsNextOf networks_in stretch 0
+    (record { address = found.address; start = found.start; end = found.end; next = length stretch })
+one_network stretch found some picked = record {
+  behind = omega arith;
+  text = picked.ordered;
+  before_next = picked.within;
+  further = some;
+  within = omega arith;
+  first = ap (λ o. or_addresses o stretch) picked.is ∙ ap (λ l. spelled_at stretch found ∷ l)
+      (sym (ap networks_in (drop_all (length stretch) stretch (omega arith)) ∙ nothing_in));
+}
 
 -- after an address of a stretch, only addresses follow
 addresses_behind : (stretch : List ℕ) (found : Found) → All (λ byte. not (is_stretch_byte byte) ≡ false) stretch
@@ -101,16 +98,7 @@ module _ (line : List ℕ) (from at : ℕ) (same : networks_of (drop from line) 
       ∙ drop-take found.next (end - (at + found.next)) (drop at line)
       ∙ ap (λ t. take (end - (at + found.next)) t) (drop-drop found.next at line)) in
       let text : slice_range stretch found.start found.end ≡ slice_range line (at + found.start) (at + found.end) =
-      let count : end - at ≡ found.start + (end - at - found.start) =
-      omega (arith, next.text, next.before_next, next.within, size) in
-      let fits : found.end - found.start ≤ end - at - found.start =
-      omega (arith, next.text, next.before_next, next.within, size) in
-      let same_count : found.end - found.start ≡ at + found.end - (at + found.start) = omega arith in
-      ap (λ n. take (found.end - found.start) (drop found.start (take n (drop at line)))) count
-      ∙ ap (λ t. take (found.end - found.start) t) (drop-take found.start (end - at - found.start) (drop at line))
-      ∙ take-take (found.end - found.start) (end - at - found.start) (drop found.start (drop at line)) fits
-      ∙ ap (λ t. take (found.end - found.start) t) (drop-drop found.start at line)
-      ∙ ap (λ n. take n (drop (at + found.start) line)) same_count in
+      inner_text line at end found.start found.end next.text (omega (arith, next.before_next, next.within, size)) in
       record {
         behind = omega (arith, low);
         text = omega (arith, next.text);

@@ -1,5 +1,5 @@
 -- The next address of a line, run by run.
-use Rattle.line_addresses.proofs.Words.{◌≡◌, ℕ, ◌+◌, ◌-◌, ◌<◌, ◌≤◌, Bool, true, not, List, [], ◌∷◌, length, length-take, take, drop, None, sym, ap, subst, ◌∙◌, arith, filter_map, slice_index, cons_option, slice_range, take-take, IpAddr, address_in, addresses_of, IsNextOf, IsRunEnd, Shows, is_run_byte}
+use Rattle.line_addresses.proofs.Words.{◌≡◌, ℕ, ◌+◌, ◌-◌, ◌<◌, ◌≤◌, Bool, true, not, List, [], ◌∷◌, length, length-take, take, drop, None, ap, subst, ◌∙◌, arith, filter_map, slice_index, cons_option, slice_range, drop-drop, drop-take, take-take, address_in, addresses_of, IsNextOf, IsPicked, IsRunEnd, is_run_byte, Found}
 use Rattle.line_addresses.proofs.LineParts.{Gathers, filters, part_at, cut_at, at_end}
 use Rattle.line_addresses.proofs.Shown.{nothing_shown}
 
@@ -8,6 +8,19 @@ ends_runs byte = not (is_run_byte byte)
 
 pub runs : Gathers (filter_map address_in) (λ run found. cons_option (address_in run) found)
 runs = filters address_in nothing_shown
+
+-- the text of a part of a part of a line
+pub inner_text : (line : List ℕ) (at end first last : ℕ) → first ≤ last → last ≤ end - at
+    → slice_range (slice_range line at end) first last ≡ slice_range line (at + first) (at + last)
+inner_text line at end first last ordered within =
+    let count : end - at ≡ first + (end - at - first) = omega (arith, ordered, within) in
+    let fits : last - first ≤ end - at - first = omega (arith, ordered, within) in
+    let same_count : last - first ≡ at + last - (at + first) = omega arith in
+    ap (λ n. take (last - first) (drop first (take n (drop at line)))) count
+    ∙ ap (λ t. take (last - first) t) (drop-take first (end - at - first) (drop at line))
+    ∙ take-take (last - first) (end - at - first) (drop first (drop at line)) fits
+    ∙ ap (λ t. take (last - first) t) (drop-drop first at line)
+    ∙ ap (λ n. take n (drop (at + first) line)) same_count
 
 module _ (line : List ℕ) (from at : ℕ) (same : addresses_of (drop from line) ≡ addresses_of (drop at line)) where
   -- a byte that is not a run byte
@@ -25,23 +38,22 @@ module _ (line : List ℕ) (from at : ℕ) (same : addresses_of (drop from line)
       same ∙ part_at runs ends_runs line at end is ∙ ap (λ o. cons_option o (addresses_of (drop end line))) none
 
   -- a run with an address
-  pub at_run : (end size : ℕ) (address : IpAddr) → from ≤ at → IsRunEnd line at end → ¬ (end ≡ at)
-      → Shows (address_in (slice_range line at end)) (slice_range line at end) address size
-      → IsNextOf addresses_of line from (record { address = address; start = at; end = at + size; next = end })
-  at_run end size address low is some shows =
-      let fits : size ≤ end - at = omega (arith, shows.within, length-take (end - at) (drop at line)) in
-      let count : at + size - at ≡ size = omega arith in
-      let text : take size (slice_range line at end) ≡ slice_range line at (at + size) =
-      take-take size (end - at) (drop at line) fits ∙ ap (λ n. take n (drop at line)) (sym count) in
+  pub at_run : (end : ℕ) (found : Found) → from ≤ at → IsRunEnd line at end → ¬ (end ≡ at)
+      → IsPicked (address_in (slice_range line at end)) (slice_range line at end) found
+      → IsNextOf addresses_of line from
+      (record { address = found.address; start = at + found.start; end = at + found.end; next = end })
+  at_run end found low is some picked =
+      let fits : found.end ≤ end - at = omega (arith, picked.within, length-take (end - at) (drop at line)) in
       record {
-        behind = low;
-        text = omega arith;
+        behind = omega (arith, low);
+        text = omega (arith, picked.ordered);
         before_next = omega (arith, fits, is.behind);
         further = omega (arith, low, is.behind, some);
         within = is.within;
         first = same ∙ part_at runs ends_runs line at end is
-            ∙ ap (λ o. cons_option o (addresses_of (drop end line))) shows.is
-            ∙ ap (λ (t : List ℕ). record { text = t; address = address } ∷ addresses_of (drop end line)) text;
+            ∙ ap (λ o. cons_option o (addresses_of (drop end line))) picked.is
+            ∙ ap (λ (t : List ℕ). record { text = t; address = found.address } ∷ addresses_of (drop end line))
+            (inner_text line at end found.start found.end picked.ordered fits);
       }
 
   pub no_more : length line ≤ at → addresses_of (drop from line) ≡ []

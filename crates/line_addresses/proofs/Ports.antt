@@ -2,12 +2,12 @@
 use Rattle.line_addresses.proofs.Words.{◌≡◌, ℕ, ◌+◌, Bool, true, false, cond, List, length, take, drop, Option, None, Some, refl, ap, ◌∙◌, arith, position_or_len, eq-eqb, ne_eqb, drop_all, position_or_len_is, IsAbsent, IsNext, IpAddr, Spelled, address_of, with_text, spelled, is_colon, is_port, before_port, Shows}
 
 -- the index of the first colon
-position : (run : List ℕ) (colon : ℕ) → IsNext 58 run 0 colon → position_or_len is_colon run ≡ colon
+pub position : (run : List ℕ) (colon : ℕ) → IsNext 58 run 0 colon → position_or_len is_colon run ≡ colon
 position run colon next =
     position_or_len_is is_colon run colon 0 (omega (arith, next.within))
     (λ k below. ne_eqb _ _ (next.between k (omega arith) below)) (λ below. eq-eqb _ _ next.there)
 
-no_position : (run : List ℕ) → IsAbsent 58 run 0 (length run) → position_or_len is_colon run ≡ length run
+pub no_position : (run : List ℕ) → IsAbsent 58 run 0 (length run) → position_or_len is_colon run ≡ length run
 no_position run absent =
     position_or_len_is is_colon run (length run) 0 (omega arith) (λ k below. ne_eqb _ _ (absent k (omega arith) below))
     (λ below. absurd (omega arith))

@@ -1,8 +1,8 @@
 -- The run after a `/` that begins the rest of a stretch.
-use Rattle.line_addresses.proofs.Words.{◌≡◌, ℕ, ◌+◌, ◌-◌, ◌<◌, ◌≤◌, Bool, true, false, not, List, [], ◌∷◌, ◌++◌, append_assoc, length, length-take, take, drop, get_or, Option, None, Some, refl, sym, ap, subst, ◌∙◌, arith, true≢false, ◌||◌, slice_index, All, cons_option, slice_range, eqb-true, drop_more, take-take, All-nil, All-cons, All-append, drop_split, IpAddr, Spelled, address_in, addresses_of, IsNextOf, is_run_byte, is_slash, networks_in, networks_of, IsRunEnd, Shows}
+use Rattle.line_addresses.proofs.Words.{◌≡◌, ℕ, ◌+◌, ◌-◌, ◌<◌, ◌≤◌, Bool, true, false, not, List, [], ◌∷◌, ◌++◌, append_assoc, length, length-take, drop, get_or, Option, None, Some, refl, sym, ap, subst, ◌∙◌, arith, true≢false, ◌||◌, slice_index, All, cons_option, slice_range, eqb-true, drop_more, All-nil, All-cons, All-append, drop_split, Spelled, address_in, addresses_of, IsNextOf, IsPicked, is_run_byte, is_slash, networks_in, networks_of, IsRunEnd, Found}
 use Rattle.line_addresses.proofs.LineParts.{BeginsWithCut, begins, inside, behind_cut, part_first}
 use Rattle.line_addresses.proofs.NextNetworks.{addresses_left, ends_stretch, nothing_in, stretches}
-use Rattle.line_addresses.proofs.NextRuns.{ends_runs, runs}
+use Rattle.line_addresses.proofs.NextRuns.{ends_runs, inner_text, runs}
 use Rattle.line_addresses.proofs.Shown.{nothing_shown}
 use Rattle.line_addresses.proofs.StretchNetworks.{none_without, slash_first, slash_left}
 
@@ -104,21 +104,20 @@ module _ (line : List ℕ) (from at end : ℕ) (same : networks_of (drop from li
       → networks_of (drop from line) ≡ networks_of (drop end line)
   slash_passed none = same ∙ after_slash ∙ ap (λ o. cons_option o (networks_of (drop end line))) none
 
-  pub at_slash_run : (size : ℕ) (address : IpAddr) → from ≤ at
-      → Shows (address_in (slice_range line (at + 1) end)) (slice_range line (at + 1) end) address size
-      → IsNextOf networks_of line from (record { address = address; start = at + 1; end = at + 1 + size; next = end })
-  at_slash_run size address low shows =
-      let fits : size ≤ end - (at + 1) =
-      omega (arith, shows.within, length-take (end - (at + 1)) (drop (at + 1) line)) in
-      let count : at + 1 + size - (at + 1) ≡ size = omega arith in
-      let text : take size (slice_range line (at + 1) end) ≡ slice_range line (at + 1) (at + 1 + size) = take-take size
-      (end - (at + 1)) (drop (at + 1) line) fits ∙ ap (λ n. take n (drop (at + 1) line)) (sym count) in
+  pub at_slash_run : (found : Found) → from ≤ at
+      → IsPicked (address_in (slice_range line (at + 1) end)) (slice_range line (at + 1) end) found
+      → IsNextOf networks_of line from
+      (record { address = found.address; start = at + 1 + found.start; end = at + 1 + found.end; next = end })
+  at_slash_run found low picked =
+      let fits : found.end ≤ end - (at + 1) =
+      omega (arith, picked.within, length-take (end - (at + 1)) (drop (at + 1) line)) in
       record {
         behind = omega (arith, low);
-        text = omega arith;
+        text = omega (arith, picked.ordered);
         before_next = omega (arith, fits, run.behind);
         further = omega (arith, low, run.behind);
         within = run.within;
-        first = same ∙ after_slash ∙ ap (λ o. cons_option o (networks_of (drop end line))) shows.is
-            ∙ ap (λ (t : List ℕ). record { text = t; address = address } ∷ networks_of (drop end line)) text;
+        first = same ∙ after_slash ∙ ap (λ o. cons_option o (networks_of (drop end line))) picked.is
+            ∙ ap (λ (t : List ℕ). record { text = t; address = found.address } ∷ networks_of (drop end line))
+            (inner_text line (at + 1) end found.start found.end picked.ordered fits);
       }

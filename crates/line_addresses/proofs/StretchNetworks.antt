@@ -1,5 +1,5 @@
 -- The network of a stretch.
-use Rattle.line_addresses.proofs.Words.{◌≡◌, ℕ, ◌-◌, ◌<◌, Bool, true, false, cond, not, List, ◌∷◌, length, take, None, Some, refl, sym, ap, ◌∙◌, arith, true≢false, ◌||◌, nat_lt, position_or_len, take-length, eq-eqb, ne_eqb, position_or_len_is, IsAbsent, IsNext, IpAddr, ends_with_mark, or_else, with_text, is_run_byte, is_slash, is_stretch_byte, has_slash, named_network, spelled_network, network_before_mark, network_in, Shows}
+use Rattle.line_addresses.proofs.Words.{◌≡◌, ℕ, ◌-◌, ◌<◌, Bool, true, false, cond, not, List, ◌∷◌, length, take, None, Some, refl, sym, ap, ◌∙◌, arith, true≢false, ◌||◌, nat_lt, position_or_len, take-length, eq-eqb, ne_eqb, position_or_len_is, IsAbsent, IsNext, IpAddr, ends_with_mark, or_else, with_text, is_run_byte, is_slash, is_stretch_byte, has_slash, named_network, spelled_network, network_before_mark, network_begun_by, network_in, behind_word, IsPicked, Shows, Found}
 use Rattle.std.specs.Prelude.{◌&&◌}
 
 -- ---- the index of the first `/`
@@ -43,38 +43,63 @@ slash_first byte rest is =
 
 pub none_without : (stretch : List ℕ) → has_slash stretch ≡ false → network_in stretch ≡ None
 unfolding network_in
-none_without stretch none = ap (λ b. cond b (or_else (spelled_network stretch) (network_before_mark stretch)) None) none
+none_without stretch none =
+    ap (λ b. cond b (or_else (network_begun_by stretch) (network_begun_by (behind_word stretch))) None) none
 
 module _ (stretch : List ℕ) (has : has_slash stretch ≡ true) where
-  with_slash : network_in stretch ≡ or_else (spelled_network stretch) (network_before_mark stretch)
+  with_slash : network_in stretch ≡ or_else (network_begun_by stretch) (network_begun_by (behind_word stretch))
   unfolding network_in
-  with_slash = ap (λ b. cond b (or_else (spelled_network stretch) (network_before_mark stretch)) None) has
+  with_slash = ap (λ b. cond b (or_else (network_begun_by stretch) (network_begun_by (behind_word stretch))) None) has
 
+  -- what begins a stretch is its network, else what is behind a word is
+  pub network_begins : (found : Found) → IsPicked (network_begun_by stretch) stretch found
+      → IsPicked (network_in stretch) stretch found
+  network_begins found picked = record {
+    ordered = picked.ordered;
+    within = picked.within;
+    is = with_slash ∙ ap (λ o. or_else o (network_begun_by (behind_word stretch))) picked.is;
+  }
+
+  pub network_begins_behind : (found : Found) → network_begun_by stretch ≡ None
+      → IsPicked (network_begun_by (behind_word stretch)) stretch found → IsPicked (network_in stretch) stretch found
+  network_begins_behind found none picked = record {
+    ordered = picked.ordered;
+    within = picked.within;
+    is = with_slash ∙ ap (λ o. or_else o (network_begun_by (behind_word stretch))) none ∙ picked.is;
+  }
+
+  pub no_network_begins : network_begun_by stretch ≡ None
+      → network_in stretch ≡ network_begun_by (behind_word stretch)
+  no_network_begins none = with_slash ∙ ap (λ o. or_else o (network_begun_by (behind_word stretch))) none
+
+module _ (stretch : List ℕ) where
   pub whole : (address : IpAddr) → named_network stretch ≡ Some address
-      → Shows (network_in stretch) stretch address (length stretch)
+      → Shows (network_begun_by stretch) stretch address (length stretch)
+  unfolding network_begun_by
   whole address named = record {
     within = omega arith;
-    is = with_slash ∙ ap (λ found. or_else (with_text stretch found) (network_before_mark stretch)) named
+    is = ap (λ found. or_else (with_text stretch found) (network_before_mark stretch)) named
         ∙ ap (λ text. Some (record { text = text; address = address })) (sym (take-length stretch));
   }
 
-  unnamed : named_network stretch ≡ None → network_in stretch ≡ network_before_mark stretch
-  unnamed none = with_slash ∙ ap (λ found. or_else (with_text stretch found) (network_before_mark stretch)) none
+  unnamed : named_network stretch ≡ None → network_begun_by stretch ≡ network_before_mark stretch
+  unfolding network_begun_by
+  unnamed none = ap (λ found. or_else (with_text stretch found) (network_before_mark stretch)) none
 
   pub marked : (address : IpAddr) → named_network stretch ≡ None → ends_with_mark stretch ≡ true
       → named_network (take (length stretch - 1) stretch) ≡ Some address
-      → Shows (network_in stretch) stretch address (length stretch - 1)
+      → Shows (network_begun_by stretch) stretch address (length stretch - 1)
   marked address none ends named = record {
     within = omega arith;
     is = unnamed none ∙ ap (λ b. cond b (spelled_network (take (length stretch - 1) stretch)) None) ends
         ∙ ap (with_text (take (length stretch - 1) stretch)) named;
   }
 
-  pub no_mark : named_network stretch ≡ None → ends_with_mark stretch ≡ false → network_in stretch ≡ None
+  pub no_mark : named_network stretch ≡ None → ends_with_mark stretch ≡ false → network_begun_by stretch ≡ None
   no_mark none ends = unnamed none ∙ ap (λ b. cond b (spelled_network (take (length stretch - 1) stretch)) None) ends
 
   pub no_rest : named_network stretch ≡ None → named_network (take (length stretch - 1) stretch) ≡ None
-      → network_in stretch ≡ None
+      → network_begun_by stretch ≡ None
   no_rest none rest = unnamed none ∙ none_if (ends_with_mark stretch)
     where
       none_if : (b : Bool) → cond b (spelled_network (take (length stretch - 1) stretch)) None ≡ None

@@ -10,14 +10,14 @@ pub use Rattle.ipnetwork_addr.specs.Ipv6Text.{NamesV6}
 pub use Rattle.ipnetwork_addr.specs.Texts.{Colon, Digit, Dot, IsAddressByte, LowerHex, UpperHex}
 pub use Rattle.ipnetwork_addr.specs.declared.ip.IpAddr.{IpAddr}
 pub use Rattle.ipnetwork_addr.specs.declared.ip.IpAddr.TheVariants.{V4, V6}
-unfoldable pub use Rattle.line_addresses.specs.Addresses.{address_in, address_of, before_port}
-pub use Rattle.line_addresses.specs.Addresses.{Spelled, addresses_of, before_mark, ends_with_mark, is_colon, is_port, or_else, spelled, with_text}
+unfoldable pub use Rattle.line_addresses.specs.Addresses.{address_in, address_of, before_port, begun_by, behind_word}
+pub use Rattle.line_addresses.specs.Addresses.{Spelled, addresses_of, before_mark, ends_with_mark, is_address_byte, is_colon, is_port, is_word, or_else, spelled, with_text}
 pub use Rattle.line_addresses.specs.Areas.{IsPicked, each_of, last_of, picked}
 pub use Rattle.line_addresses.specs.Fields.{field_of, fields_of}
-pub use Rattle.line_addresses.specs.Following.{following}
+pub use Rattle.line_addresses.specs.Following.{begins_name, begun_by_address, first_run, following, following_from, is_name_byte, opened, opened_from, opens, value_after}
 pub use Rattle.line_addresses.specs.Found.{IsNextOf, StopsARun, spelled_at}
 pub use Rattle.line_addresses.specs.LineRuns.{is_run_byte}
-unfoldable pub use Rattle.line_addresses.specs.Networks.{named_network, network_in}
+unfoldable pub use Rattle.line_addresses.specs.Networks.{named_network, network_begun_by, network_in}
 pub use Rattle.line_addresses.specs.Networks.{address_read, found_of, has_slash, is_slash, is_stretch_byte, network_before_mark, networks_in, networks_of, or_addresses, spelled_network}
 pub use Rattle.line_addresses.specs.Numbers.{number_of, ordinal_in}
 pub use Rattle.line_addresses.specs.Places.{at_place, place_in, place_text}
@@ -45,4 +45,4 @@ unfoldable pub use Rattle.std.specs.Fmt.{digits}
 pub use Rattle.std.specs.Int.{is_in_range}
 pub use Rattle.std.specs.List.{All, AllByRecursion, after_first, cons_option, list_all, onto_first, position_or_len, range_with_len, slice_range, slice_split}
 pub use Rattle.std.specs.Option.{option_to_list}
-pub use Rattle.std.specs.Prelude.{Err, IfSome, MatchOption, Ok, bytes_eq, codes, filter, filter_map, flat_map, if◌then◌else◌, map, nat_le, nat_lt, option_map, reverse, slice_get, slice_index, ◌||◌}
+pub use Rattle.std.specs.Prelude.{Err, IfSome, MatchOption, Ok, bytes_eq, codes, is_some, option_and_then, filter, filter_map, flat_map, if◌then◌else◌, map, nat_le, nat_lt, option_map, reverse, slice_get, slice_index, ◌||◌}

@@ -1,11 +1,12 @@
 -- The addresses of a line.
-use Rattle.std.specs.Prelude.{ℕ, ◌-◌, ◌==◌, ◌||◌, ◌&&◌, Bool, List, Option, None, Some, length, take, filter_map}
-use Rattle.std.specs.Prelude.{nat_lt, nat_le, slice_index, if◌then◌else◌}
+use Rattle.std.specs.Prelude.{ℕ, ◌-◌, ◌==◌, ◌||◌, ◌&&◌, Bool, List, [], Option, None, Some, length, take, filter_map}
+use Rattle.std.specs.Prelude.{not, nat_lt, nat_le, slice_index, if◌then◌else◌}
 use Rattle.std.specs.Char.{is_ascii_digit}
+use Rattle.std.specs.Int.{is_in_range}
 use Rattle.std.specs.List.{list_all, before_first, after_first}
 use Rattle.ipnetwork_addr.specs.Computed.Either.{ip_of}
 use Rattle.ipnetwork_addr.specs.declared.ip.IpAddr.{IpAddr}
-use Rattle.line_addresses.specs.LineRuns.{runs_of}
+use Rattle.line_addresses.specs.LineRuns.{is_run_byte, runs_of}
 
 -- an address, and the text that names it
 pub record Spelled : Type 0 where
@@ -52,9 +53,27 @@ abbrev pub or_else : Option Spelled → Option Spelled → Option Spelled
 or_else (Some first) second = Some first
 or_else None second = second
 
--- the address of a run: that of the whole run, else the one before a mark at its end, else the one before a port
+-- the address that begins a run: the one that the whole run names, else the one before a mark at its end, else the one
+-- before a port
+unfoldable pub begun_by : List ℕ → Option Spelled
+begun_by run = or_else (spelled run) (or_else (before_mark run) (before_port run))
+
+-- the byte occurs in address texts: a hex digit, `.` or `:`
+abbrev pub is_address_byte : ℕ → Bool
+is_address_byte byte =
+    is_in_range 48 57 byte || is_in_range 65 70 byte || is_in_range 97 102 byte || byte == 46 || byte == 58
+
+-- the text is a word: its bytes are run bytes, and one of them occurs in no address text
+abbrev pub is_word : List ℕ → Bool
+is_word text = list_all is_run_byte text && not (list_all is_address_byte text)
+
+-- what is behind a word and the first `:` of a text, or nothing if no word is before that `:`
+unfoldable pub behind_word : List ℕ → List ℕ
+behind_word text = if is_word (before_first is_colon text) then after_first is_colon text else []
+
+-- the address of a run: the one that begins it, else the one that begins what is behind a word and a `:`
 unfoldable pub address_in : List ℕ → Option Spelled
-address_in run = or_else (spelled run) (or_else (before_mark run) (before_port run))
+address_in run = or_else (begun_by run) (begun_by (behind_word run))
 
 -- the addresses of a line: those of its runs, in order
 abbrev pub addresses_of : List ℕ → List Spelled

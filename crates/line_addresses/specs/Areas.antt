@@ -4,7 +4,7 @@ use Rattle.std.specs.Prelude.{if◌then◌else◌}
 use Rattle.std.specs.Option.{option_to_list}
 use Rattle.line_addresses.specs.Addresses.{Spelled, spelled}
 use Rattle.line_addresses.specs.Fields.{fields_of}
-use Rattle.line_addresses.specs.Following.{following}
+use Rattle.line_addresses.specs.Following.{value_after}
 use Rattle.line_addresses.specs.Found.{spelled_at}
 use Rattle.line_addresses.specs.Networks.{found_of, spelled_network}
 use Rattle.line_addresses.specs.Places.{at_place}
@@ -21,7 +21,7 @@ abbrev pub part_of : Part → List ℕ → Option (List ℕ)
 part_of parts.Line line = Some line
 part_of (parts.Field place separator) line = at_place place (fields_of separator line)
 part_of (parts.Word place) line = at_place place (words_of line)
-part_of (parts.After text) line = following text line
+part_of (parts.After text) line = value_after text line
 
 -- the last address of a list, or `before` if the list is empty
 abbrev pub last_of : Option Spelled → List Spelled → Option Spelled

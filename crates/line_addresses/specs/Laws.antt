@@ -3,12 +3,12 @@ use Rattle.std.specs.Prelude.{◌≡◌, ◌↔◌, ◌∷◌, ℕ, List, None, 
 use Rattle.ipnetwork_addr.specs.Either.{NamesIp}
 use Rattle.ipnetwork_addr.specs.Texts.{IsAddressByte}
 use Rattle.ipnetwork_addr.specs.declared.ip.IpAddr.{IpAddr}
-use Rattle.line_addresses.specs.Addresses.{address_of, address_in}
+use Rattle.line_addresses.specs.Addresses.{address_of, begun_by}
 
 -- the address of a text is the one that it names
 abbrev pub NamedAddress : Type 0
 NamedAddress = (text : List ℕ) (address : IpAddr) → NamesIp text address ↔ (address_of text ≡ Some address)
 
--- a run whose first byte occurs in no address text has no address
+-- no address begins a run whose first byte occurs in no address text
 abbrev pub BeginsNoAddress : Type 0
-BeginsNoAddress = (byte : ℕ) (run : List ℕ) → ¬ (IsAddressByte byte) → address_in (byte ∷ run) ≡ None
+BeginsNoAddress = (byte : ℕ) (run : List ℕ) → ¬ (IsAddressByte byte) → begun_by (byte ∷ run) ≡ None

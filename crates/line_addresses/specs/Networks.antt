@@ -7,7 +7,7 @@ use Rattle.ipnetwork_family.specs.declared.error.CidrFault.{CidrFault}
 use Rattle.ipnetwork.specs.IpNetworks as networks
 use Rattle.ipnetwork.specs.Computed.IpNetworkText.{ip_network_of}
 use Rattle.ipnetwork.specs.declared.ip_network.IpNetwork.{IpNetwork}
-use Rattle.line_addresses.specs.Addresses.{Spelled, addresses_of, ends_with_mark, or_else, with_text}
+use Rattle.line_addresses.specs.Addresses.{Spelled, addresses_of, behind_word, ends_with_mark, or_else, with_text}
 use Rattle.line_addresses.specs.LineRuns.{is_run_byte}
 
 -- the byte is a `/`; the byte is a stretch byte: a run byte or a `/`
@@ -37,14 +37,20 @@ named_network text = address_read (ip_network_of text)
 abbrev pub spelled_network : List ℕ → Option Spelled
 spelled_network text = with_text text (named_network text)
 
--- the network of a stretch that has a `/`: the one it names, else the one it names without a `.` or `:` at its end
+-- the network before the mark that ends a stretch
 abbrev pub network_before_mark : List ℕ → Option Spelled
 network_before_mark stretch =
     if ends_with_mark stretch then spelled_network (take (length stretch - 1) stretch) else None
 
+-- the network that begins a stretch: the one that the whole stretch names, else the one before a mark at its end
+unfoldable pub network_begun_by : List ℕ → Option Spelled
+network_begun_by stretch = or_else (spelled_network stretch) (network_before_mark stretch)
+
+-- the network of a stretch that has a `/`: the one that begins it, else the one that begins what is behind a word and a
+-- `:`
 unfoldable pub network_in : List ℕ → Option Spelled
 network_in stretch =
-    if has_slash stretch then or_else (spelled_network stretch) (network_before_mark stretch) else None
+    if has_slash stretch then or_else (network_begun_by stretch) (network_begun_by (behind_word stretch)) else None
 
 -- the network of a stretch, or the addresses of the stretch if it has no network
 abbrev pub or_addresses : Option Spelled → List ℕ → List Spelled

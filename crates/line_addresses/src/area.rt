@@ -37,7 +37,7 @@ pub enum Part<'a> {
     },
     /// The word at this place. Words are separated by spaces and tabs.
     Word(Place),
-    /// What follows the first occurrence of a text.
+    /// What follows a text, if an address follows directly.
     After(Text<'a>),
 }
 

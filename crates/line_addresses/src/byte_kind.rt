@@ -1,6 +1,7 @@
 //! The kinds of bytes, by a table.
 ghost use Rattle.std.specs.Prelude.{◌≡◌, ◌↔◌, IsTrue};
 ghost use Rattle.ipnetwork_addr.specs.Texts.{IsAddressByte};
+ghost use Rattle.line_addresses.specs.Addresses.{is_address_byte};
 ghost use Rattle.line_addresses.specs.LineRuns.{is_run_byte};
 
 /// Returns whether a byte may occur in a run: an ASCII letter or digit, `.`, `:` or `_`.
@@ -14,7 +15,8 @@ pub(crate) fn is_run_byte(byte: u8) -> bool
 /// Returns whether a byte may occur in an address text: a hex digit, `.` or `:`.
 #[inline(always)]
 pub(crate) fn is_address_byte(byte: u8) -> bool
-    ensures { IsTrue result ↔ IsAddressByte byte }
+    ensures computed { result ≡ is_address_byte byte }
+    ensures occurs { IsTrue result ↔ IsAddressByte byte }
 {
     KINDS[usize::from(byte)] == 2
 }

@@ -43,11 +43,11 @@ pub fn next_address(line: &[u8], from: usize) -> Option<Found>
             at += 1;
             continue 'runs;
         }
-        if let Some((address, size)) = address_in(&line[at..end]) {
+        if let Some(found) = address_in(&line[at..end]) {
             return Some(Found {
-                address,
-                start: at,
-                end: at + size,
+                address: found.address,
+                start: at + found.start,
+                end: at + found.end,
                 next: end,
             });
         }

@@ -11,7 +11,7 @@ pub fn named_address()
     ip_reading_is_computed();
 }
 
-/// A run whose first byte occurs in no address text has no address.
+/// No address begins a run whose first byte occurs in no address text.
 pub fn begins_no_address()
     ensures { BeginsNoAddress }
 {

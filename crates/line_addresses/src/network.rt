@@ -1,22 +1,52 @@
 //! The network of a stretch.
 ghost use Rattle.std.specs.Prelude.{◌≡◌, None, MatchOption};
-ghost use Rattle.line_addresses.specs.Networks.{has_slash, named_network, network_in};
+ghost use Rattle.line_addresses.specs.Areas.{IsPicked};
+ghost use Rattle.line_addresses.specs.Networks.{has_slash, named_network, network_begun_by};
+ghost use Rattle.line_addresses.specs.Networks.{network_in};
 ghost use Rattle.line_addresses.specs.Private.LineRuns.{Shows};
 
+use crate::found::Found;
+use crate::named::behind_word;
 use crate::run::ends_with_mark;
 use byte_search::find_from;
 use ipnetwork::laws::ip_network_reading_is_computed;
 use ipnetwork::{IpAddr, IpNetwork};
 
-/// Returns the address of the network that a stretch with a `/` names, and the length of the
-/// network's text: all of the stretch, or all but a `.` or `:` at its end.
-pub(crate) fn network_in(stretch: &[u8]) -> Option<(IpAddr, usize)>
+/// Returns the address of the network of a stretch that has a `/`, and the position of the
+/// network's text in the stretch.
+pub(crate) fn network_in(stretch: &[u8]) -> Option<Found>
     ensures { MatchOption result (network_in stretch.now ≡ None)
-        (λ shown. Shows (network_in stretch.now) stretch.now shown.0 shown.1) }
+        (IsPicked (network_in stretch.now) stretch.now) }
 {
     if !has_slash(stretch) {
         return None;
     }
+    if let Some((address, size)) = network_begun_by(stretch) {
+        return Some(Found {
+            address,
+            start: 0,
+            end: size,
+            next: stretch.len(),
+        });
+    }
+    let start = behind_word(stretch);
+    match network_begun_by(&stretch[start..]) {
+        Some((address, size)) => Some(Found {
+            address,
+            start,
+            end: start + size,
+            next: stretch.len(),
+        }),
+        None => None,
+    }
+}
+
+// Returns the address of the network that begins a stretch, and the length of the network's text:
+// all of the stretch, or all but a `.` or `:` at its end.
+fn network_begun_by(stretch: &[u8]) -> Option<(IpAddr, usize)>
+    ensures { MatchOption result (network_begun_by stretch.now ≡ None)
+        (λ shown. Shows (network_begun_by stretch.now) stretch.now shown.0 shown.1) }
+{
     if let Some(address) = named_network(stretch) {
         return Some((address, stretch.len()));
     }

@@ -3,8 +3,8 @@ ghost use Rattle.std.specs.Prelude.{◌≡◌, None, Some, MatchOption};
 ghost use Rattle.line_addresses.specs.Areas.{part_of};
 
 use crate::area::Part;
-use crate::first_position::following;
 use crate::place::{field_at_place, word_at_place};
+use crate::value::value_after;
 
 /// Returns this part of a line, or `None` if the line does not have it.
 ///
@@ -23,6 +23,6 @@ pub fn part_of<'a>(part: &Part<'_>, line: &'a [u8]) -> Option<&'a [u8]>
         Part::Line => Some(line),
         Part::Field { place, separator } => field_at_place(line, *place, *separator),
         Part::Word(place) => word_at_place(line, *place),
-        Part::After(text) => following(line, text.bytes()),
+        Part::After(text) => value_after(line, text.bytes()),
     }
 }

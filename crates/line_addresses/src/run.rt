@@ -1,10 +1,14 @@
 //! The address of a run.
 ghost use Rattle.std.specs.Prelude.{◌≡◌, ◌≤◌, None, MatchOption, length, take};
 ghost use Rattle.line_addresses.specs.Addresses.{address_of, ends_with_mark, address_in, before_port};
+ghost use Rattle.line_addresses.specs.Addresses.{begun_by};
+ghost use Rattle.line_addresses.specs.Areas.{IsPicked};
 ghost use Rattle.line_addresses.specs.Private.LineRuns.{IsRunEnd, Shows};
 
 use crate::byte_kind::{is_address_byte, is_run_byte};
+use crate::found::Found;
 use crate::laws;
+use crate::named::behind_word;
 use crate::port::is_port;
 use byte_search::find_from;
 use ipnetwork_addr::IpAddr;
@@ -23,10 +27,38 @@ pub(crate) fn run_end(line: &[u8], start: usize) -> usize
     line.len()
 }
 
-/// Returns the address of a run and the length of its text, which begins the run.
-pub(crate) fn address_in(run: &[u8]) -> Option<(IpAddr, usize)>
+/// Returns the address of a run, and the position of its text in the run.
+pub(crate) fn address_in(run: &[u8]) -> Option<Found>
     ensures { MatchOption result (address_in run.now ≡ None)
-        (λ shown. Shows (address_in run.now) run.now shown.0 shown.1) }
+        (IsPicked (address_in run.now) run.now) }
+{
+    if let Some((address, size)) = begun_by(run) {
+        return Some(Found {
+            address,
+            start: 0,
+            end: size,
+            next: run.len(),
+        });
+    }
+    let start = behind_word(run);
+    if start == run.len() {
+        return None;
+    }
+    match begun_by(&run[start..]) {
+        Some((address, size)) => Some(Found {
+            address,
+            start,
+            end: start + size,
+            next: run.len(),
+        }),
+        None => None,
+    }
+}
+
+// Returns the address that begins a run, and the length of its text.
+fn begun_by(run: &[u8]) -> Option<(IpAddr, usize)>
+    ensures { MatchOption result (begun_by run.now ≡ None)
+        (λ shown. Shows (begun_by run.now) run.now shown.0 shown.1) }
 {
     laws::begins_no_address();
     if run.is_empty() {

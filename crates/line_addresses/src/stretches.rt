@@ -33,11 +33,11 @@ pub fn next_network(line: &[u8], from: usize) -> Option<Found>
         if line[at] == b'/' {
             // No network begins with `/`, so the rest of the stretch has only addresses.
             let run = run_end(line, at + 1);
-            if let Some((address, size)) = address_in(&line[at + 1..run]) {
+            if let Some(found) = address_in(&line[at + 1..run]) {
                 return Some(Found {
-                    address,
-                    start: at + 1,
-                    end: at + 1 + size,
+                    address: found.address,
+                    start: at + 1 + found.start,
+                    end: at + 1 + found.end,
                     next: run,
                 });
             }
@@ -91,10 +91,10 @@ fn first_of(stretch: &[u8]) -> Option<Found>
         (IsNextOf networks_in stretch.now 0) }
 {
     match network_in(stretch) {
-        Some((address, size)) => Some(Found {
-            address,
-            start: 0,
-            end: size,
+        Some(found) => Some(Found {
+            address: found.address,
+            start: found.start,
+            end: found.end,
             next: stretch.len(),
         }),
         None => next_address(stretch, 0),

@@ -25,9 +25,10 @@ macro_rules! log_help {
             "
     --nth WHICH     use only this one of the addresses found: first, last, or a number from 1 up; -a
                     need not be given
-    --after TEXT    the address is the first one after the first TEXT in a line, found as by -a, or
-                    the one that --nth selects; a line without TEXT has none: --after SRC=. Not with
-                    -a, -k, -d or -w",
+    --after TEXT    the address is the one that follows the first TEXT in a line directly, or behind
+                    blanks, quotation marks and [, found as by -a; else the line has none. --nth
+                    counts from it on. --after SRC= is not found inside ORIG_SRC=. Not with -a, -k,
+                    -d or -w",
             $last,
         )
     };

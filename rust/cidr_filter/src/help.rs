@@ -18,9 +18,9 @@ Prints the lines of logs whose address is in a list of IP networks.
                     refused line ends the program before any log is read",
     "
     -a              look for addresses anywhere in a line, or anywhere in the field that -k, -d or
-                    -w select: 10.1.1.1:51234, [10.1.1.1], SRC=10.1.1.1 and [2001:db8::1]:443 have
-                    one; v10.1.2.3, 1.2.3.4.5 and 12:34:56 have none. A line is selected if one of
-                    its addresses is in a network",
+                    -w select: 10.1.1.1:51234, [10.1.1.1], SRC=10.1.1.1, addr:10.1.1.1 and
+                    [2001:db8::1]:443 have one; v10.1.2.3, 1.2.3.4.5 and 12:34:56 have none. A line
+                    is selected if one of its addresses is in a network",
     "
     -o              print the addresses that are in a network, and with --networks the networks, one
                     on each line, instead of lines. Not with -v or --longest

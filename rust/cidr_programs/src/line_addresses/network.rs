@@ -2,16 +2,41 @@
 
 //! The network of a stretch.
 
+use crate::line_addresses::found::Found;
+use crate::line_addresses::named::behind_word;
 use crate::line_addresses::run::ends_with_mark;
 use fosibegan_core::byte_search::find_from;
 use fosibegan_core::ipnetwork::{IpAddr, IpNetwork};
 
-/// Returns the address of the network that a stretch with a `/` names, and the length of the
-/// network's text: all of the stretch, or all but a `.` or `:` at its end.
-pub(crate) fn network_in(stretch: &[u8]) -> Option<(IpAddr, usize)> {
+/// Returns the address of the network of a stretch that has a `/`, and the position of the
+/// network's text in the stretch.
+pub(crate) fn network_in(stretch: &[u8]) -> Option<Found> {
     if !has_slash(stretch) {
         return None;
     }
+    if let Some((address, size)) = network_begun_by(stretch) {
+        return Some(Found {
+            address,
+            start: 0,
+            end: size,
+            next: stretch.len(),
+        });
+    }
+    let start = behind_word(stretch);
+    match network_begun_by(&stretch[start..]) {
+        Some((address, size)) => Some(Found {
+            address,
+            start,
+            end: start + size,
+            next: stretch.len(),
+        }),
+        None => None,
+    }
+}
+
+// Returns the address of the network that begins a stretch, and the length of the network's text:
+// all of the stretch, or all but a `.` or `:` at its end.
+fn network_begun_by(stretch: &[u8]) -> Option<(IpAddr, usize)> {
     if let Some(address) = named_network(stretch) {
         return Some((address, stretch.len()));
     }

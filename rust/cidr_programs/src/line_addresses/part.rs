@@ -3,8 +3,8 @@
 //! A part of a line.
 
 use crate::line_addresses::area::Part;
-use crate::line_addresses::first_position::following;
 use crate::line_addresses::place::{field_at_place, word_at_place};
+use crate::line_addresses::value::value_after;
 
 /// Returns this part of a line, or `None` if the line does not have it.
 ///
@@ -21,6 +21,6 @@ pub fn part_of<'a>(part: &Part<'_>, line: &'a [u8]) -> Option<&'a [u8]> {
         Part::Line => Some(line),
         Part::Field { place, separator } => field_at_place(line, *place, *separator),
         Part::Word(place) => word_at_place(line, *place),
-        Part::After(text) => following(line, text.bytes()),
+        Part::After(text) => value_after(line, text.bytes()),
     }
 }

@@ -3,6 +3,8 @@
 //! The address of a run.
 
 use crate::line_addresses::byte_kind::{is_address_byte, is_run_byte};
+use crate::line_addresses::found::Found;
+use crate::line_addresses::named::behind_word;
 use crate::line_addresses::port::is_port;
 use fosibegan_core::byte_search::find_from;
 use fosibegan_core::ipnetwork_addr::IpAddr;
@@ -18,8 +20,33 @@ pub(crate) fn run_end(line: &[u8], start: usize) -> usize {
     line.len()
 }
 
-/// Returns the address of a run and the length of its text, which begins the run.
-pub(crate) fn address_in(run: &[u8]) -> Option<(IpAddr, usize)> {
+/// Returns the address of a run, and the position of its text in the run.
+pub(crate) fn address_in(run: &[u8]) -> Option<Found> {
+    if let Some((address, size)) = begun_by(run) {
+        return Some(Found {
+            address,
+            start: 0,
+            end: size,
+            next: run.len(),
+        });
+    }
+    let start = behind_word(run);
+    if start == run.len() {
+        return None;
+    }
+    match begun_by(&run[start..]) {
+        Some((address, size)) => Some(Found {
+            address,
+            start,
+            end: start + size,
+            next: run.len(),
+        }),
+        None => None,
+    }
+}
+
+// Returns the address that begins a run, and the length of its text.
+fn begun_by(run: &[u8]) -> Option<(IpAddr, usize)> {
     if run.is_empty() {
         return None;
     }

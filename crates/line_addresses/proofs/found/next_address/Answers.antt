@@ -19,8 +19,8 @@ runs-preserved c = record {
 
 pub returns-in-Some-clause-first : goal.returns-in-Some-clause-first
 returns-in-Some-clause-first c =
-    at_run c.args.line.now c.args.from c.runs.at c.runs.invariant.same c.run_end-end.result c.in-Some.size
-    c.in-Some.address c.runs.invariant.behind c.run_end-end.ensures c.if-end-at.false c.in-Some.ensures
+    at_run c.args.line.now c.args.from c.runs.at c.runs.invariant.same c.run_end-end.result c.in-Some.found
+    c.runs.invariant.behind c.run_end-end.ensures c.if-end-at.false c.in-Some.ensures
 
 pub returns-clause-first : goal.returns-clause-first
 returns-clause-first c = no_more c.args.line.now c.args.from c.runs.at c.runs.invariant.same c.runs-test.false

@@ -1,29 +1,25 @@
-use Rattle.line_addresses.proofs.Known.{sym, ◌∙◌, none_without, whole, marked, no_mark}
-use Rattle.line_addresses.proofs.StretchNetworks.{no_rest}
+use Rattle.line_addresses.proofs.Known.{sym, ◌∙◌, take_rest, network_begun_by, at_rest, at_start, none_at_rest, none_without, network_begins, network_begins_behind, no_network_begins}
 use Rattle.line_addresses.proofs.network.network_in.Goals as goal
-use Rattle.line_addresses.proofs.network.network_in.Goals.{then-ends_with_mark+in_default-named_network, else-ends_with_mark}
 
 pub returns-then-not-has_slash : goal.returns-then-not-has_slash
 returns-then-not-has_slash c = none_without c.args.stretch.now (sym c.has_slash.ensures ∙ c.if-not-has_slash.true)
 
 pub returns-in-Some : goal.returns-in-Some
-returns-in-Some c = whole c.args.stretch.now (sym c.has_slash.ensures ∙ c.if-not-has_slash.false) c.in-Some.address
-    (sym c.named_network.ensures ∙ c.in-Some.is)
+returns-in-Some c =
+    network_begins c.args.stretch.now (sym c.has_slash.ensures ∙ c.if-not-has_slash.false) _
+    (at_start _ c.args.stretch.now c.in-Some.address c.in-Some.size _ c.in-Some.ensures)
 
-pub returns-in-Some-named_network : goal.returns-in-Some-named_network
-returns-in-Some-named_network c =
-    marked c.args.stretch.now (sym c.has_slash.ensures ∙ c.if-not-has_slash.false) c.in-Some-named_network.address
-    (sym c.named_network.ensures ∙ c.in_default.is)
-    (sym c.ends_with_mark.ensures ∙ c.if-ends_with_mark.true) (sym c.named_network-then-ends_with_mark.ensures
-    ∙ c.in-Some-named_network.is)
+pub returns-in-Some-network_begun_by : goal.returns-in-Some-network_begun_by
+returns-in-Some-network_begun_by c =
+    let rest = c.behind_word-start in
+    network_begins_behind c.args.stretch.now (sym c.has_slash.ensures ∙ c.if-not-has_slash.false) _
+    c.in_default.ensures (at_rest network_begun_by c.args.stretch.now _ rest.result rest.ensures.within
+    (take_rest c.args.stretch.now rest.result) rest.ensures.rest c.in-Some-network_begun_by.address
+    c.in-Some-network_begun_by.size _ c.in-Some-network_begun_by.ensures)
 
-pub returns : goal.returns
-returns c =
-    let stretch = c.args.stretch.now in
-    let has = sym c.has_slash.ensures ∙ c.if-not-has_slash.false in
-    let none = sym c.named_network.ensures ∙ c.in_default.is in
-    elim c.if-ends_with_mark.branch [
-      | then-ends_with_mark+in_default-named_network w ↦ no_rest stretch has none
-          (sym w.named_network-then-ends_with_mark.ensures ∙ w.in_default-named_network.is)
-      | else-ends_with_mark w ↦ no_mark stretch has none (sym c.ends_with_mark.ensures ∙ w.if-ends_with_mark.false)
-    ]
+pub returns-in-None : goal.returns-in-None
+returns-in-None c =
+    let rest = c.behind_word-start in
+    no_network_begins c.args.stretch.now (sym c.has_slash.ensures ∙ c.if-not-has_slash.false) c.in_default.ensures
+    ∙ none_at_rest network_begun_by c.args.stretch.now _ rest.result rest.ensures.within
+    (take_rest c.args.stretch.now rest.result) rest.ensures.rest c.in-None.ensures

@@ -33,7 +33,7 @@ stretches-preserved c = record {
 pub returns-in-Some : goal.returns-in-Some
 returns-in-Some c =
     at_slash_run c.args.line.now c.args.from c.stretches.at c.run_end-run.result c.stretches.invariant.same
-    c.stretches-test.true c.if-line-at-eq47.true c.run_end-run.ensures c.in-Some.size c.in-Some.address
+    c.stretches-test.true c.if-line-at-eq47.true c.run_end-run.ensures c.in-Some.found
     c.stretches.invariant.behind c.in-Some.ensures
 
 pub returns-in-Some-first_of : goal.returns-in-Some-first_of
