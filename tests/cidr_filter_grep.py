@@ -14,7 +14,7 @@ PIPES = {"stdout": subprocess.PIPE, "stderr": subprocess.PIPE}
 LOGS = ("one", "two", "none_of_ten", "three", "nothing")
 # The options of a run, of each kind one or none.
 KINDS = (("", "-v"), ("", "-m 1", "-m 2", "-m 7", "-m 0", "-m 1000"), ("", "-H", "-c", "-c -H", "-c -h"))
-KINDS += (("", "-l", "-q", "-l -q"), ("", "-n"))
+KINDS += (("", "-l", "-q", "-l -q"), ("", "-n", "-Z"))
 
 
 def run(words, folder, given=b""):
@@ -36,7 +36,8 @@ def counted(options, logs):
     """What `-c` prints of logs of which no line may be selected, of which grep prints nothing."""
     named = "-H" in options or len(logs) > 1 and "-h" not in options
     names = ["(standard input)" if log == "-" else log for log in logs]
-    return "".join(f"{name}:0\n" if named else "0\n" for name in names).encode()
+    behind = "\0" if "-Z" in options else ":"
+    return "".join(f"{name}{behind}0\n" if named else "0\n" for name in names).encode()
 
 
 def as_grep(program, folder):

@@ -12,7 +12,8 @@ NAMES = [
     (b"a\nb", b"a\\x0ab"),
     (b"\x1b[31mred", b"\\x1b[31mred"),
     ("\x9b1m\u0142".encode(), b"\\xc2\\x9b1m\xc5\x82"),
-    (b"tab\tbell\x07del\x7f", b"tab\tbell\\x07del\\x7f"),
+    (b"tab\tbell\x07del\x7f", b"tab\\x09bell\\x07del\\x7f"),
+    ("log\u202egol\u200b\u2019".encode(), b"log\\xe2\\x80\\xaegol\\xe2\\x80\\x8b\xe2\x80\x99"),
 ]
 LONG = b"10.0.0.1\n" + b"x" * 1048577 + b"\n"
 # What stands at the name (bytes, a folder, nothing, or a file of which each read fails), the options before
@@ -32,6 +33,7 @@ ROWS = [
     (LONG, "-f list -Hc", b"NAME:1\n", b":2: line too long", 2),
     (LONG, "-f list --bad stop", b"10.0.0.1\n", b":2: refused length", 2),
     (LONG, "-f list -l", b"NAME\n", b"", 0),
+    (LONG, "-f list -lZ", b"NAME\0", b"", 0),
 ]
 
 
@@ -67,3 +69,25 @@ def in_messages(program, folder):
         got = limits.run([program, "-f", "list", "--after", name, "log"], cwd=folder, capture_output=True)
         told = b"cidr_filter: log: no line has an address after " + shown + b"\n"
         yield f"--after {name}", (got.stdout, got.stderr, got.returncode) == (b"", told, 1), got
+
+
+# Words of which one is not UTF-8, what is printed and reported, and the status: as a log it is reported, and the others
+# are read; any other ends the program.
+CANNOT = b": cannot open: name is not UTF-8\n"
+NOT_UTF8 = [
+    ([b"-flist", b"log-\xff", b"no_end"], b"10.0.0.1\n", b"cidr_filter: log-\\xff" + CANNOT, 2),
+    ([b"-flist", b"-Hc", b"no_end", b"\t\xe2\x80\xae\xc3"], b"no_end:1\n", b"cidr_filter: \\x09\\xe2\\x80\\xae\\xc3" + CANNOT, 2),
+    ([b"-flist", b"--", b"no_end", b"\xff"], b"10.0.0.1\n", b"cidr_filter: \\xff" + CANNOT, 2),
+    ([b"-qflist", b"no_end", b"\xff"], b"", b"", 0),
+    ([b"-f", b"\xff", b"no_end"], b"", b"cidr_filter: \\xff: not UTF-8\nUSAGE", 2),
+    ([b"-flist", b"-f\xff", b"no_end"], b"", b"cidr_filter: -f\\xff: not UTF-8\nUSAGE", 2),
+    ([b"-flist", b"-e", b"10.0.0.1\x80", b"\xff"], b"", b"cidr_filter: 10.0.0.1\\x80: not UTF-8\ncidr_filter: \\xff: not UTF-8\nUSAGE", 2),
+    ([b"-flist", b"--", b"-v\xff", b"no_end"], b"", b"cidr_filter: -v\\xff: not UTF-8\nUSAGE", 2),
+]
+
+
+def not_utf8(program, folder, usage):
+    for words, printed, told, status in NOT_UTF8:
+        got = limits.run([program, *words], cwd=folder, capture_output=True)
+        wanted = printed, told.replace(b"USAGE", usage), status
+        yield f"{words}", (got.stdout, got.stderr, got.returncode) == wanted, got

@@ -50,8 +50,13 @@ name_of_a_log = refl
 pub no_name_of_a_log : output_of naming 1 verdicts.Outside (ended (codes "10.0.0.1")) ≡ []
 no_name_of_a_log = refl
 
-pub no_number_beside_names : count_line (is_count shows.Names) (codes "log") 2 ≡ []
+pub no_number_beside_names : count_line (is_count shows.Names) false (codes "log") 2 ≡ []
 no_number_beside_names = refl
+
+-- `-Z` puts NUL in place of the colon, and nothing without a name
+pub numbers_behind_nul : map (λ (label : List ℕ). count_line true true label 2) (codes "log" ∷ [] ∷ [])
+    ≡ (codes "log" ++ 0 ∷ codes "2\n") ∷ codes "2\n" ∷ []
+numbers_behind_nul = refl
 
 -- ---- the exit status
 

@@ -69,6 +69,7 @@ by inverts bad = record {
   named = false;
   numbered =
       false;
+  nul = false;
   name = [];
 }
 
@@ -243,6 +244,20 @@ line_counted = refl
 pub line_named : (byte : ℕ) (name : List ℕ) → output_of (record (by false without.Drop) { name = byte ∷ name }) 1
     (verdicts.Inside None) (ended (codes "a")) ≡ (byte ∷ name ++ codes ":") ++ codes "a\n"
 line_named byte name = ap (λ (h : List ℕ). h ++ codes "a\n") (append-nil (byte ∷ name ++ codes ":"))
+
+-- with `-Z`, NUL follows the name, in place of the colon, and in place of the line feed of `-l`; without a name it is
+-- nowhere
+pub name_before_nul : (byte : ℕ) (name : List ℕ)
+    → output_of (record (by false without.Drop) { nul = true; name = byte ∷ name }) 1
+    (verdicts.Inside None) (ended (codes "a")) ≡ (byte ∷ name ++ 0 ∷ []) ++ codes "a\n"
+name_before_nul byte name = ap (λ (h : List ℕ). h ++ codes "a\n") (append-nil (byte ∷ name ++ 0 ∷ []))
+
+pub names_before_nul : let filter = record (by false without.Drop)
+    { nul = true; numbered = true; name = codes "log" } in
+    map (λ (f : Filter). output_of f 7 (verdicts.Inside None) (ended (codes "a")))
+    (filter ∷ record filter { shows = shows.Names } ∷ record filter { name = [] } ∷ [])
+    ≡ (codes "log" ++ 0 ∷ codes "7:a\n") ∷ (codes "log" ++ 0 ∷ []) ∷ codes "7:a\n" ∷ []
+names_before_nul = refl
 
 pub longest_named : (tables : Tables) → output_of (record (by false without.Keep)
     { listed = Blocks tables; name = codes "log" }) 1 verdicts.NoAddress (ended (codes "a")) ≡ codes "log:-\ta\n"

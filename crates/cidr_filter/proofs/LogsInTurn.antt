@@ -31,7 +31,7 @@ module _ (filter : Filter) (known : KnownLists) (name : List ℕ) (total : Outco
         read_failed old mid tally
 
     abbrev number : List ℕ
-    number = count_line (is_count filter.shows) (label_of filter.named name) tally.selected
+    number = count_line (is_count filter.shows) filter.nul (label_of filter.named name) tally.selected
 
     -- the number of its selected lines was written, or not
     pub name_filtered : (done : Reached) → Filtered (Ok done) → Prints mid new number

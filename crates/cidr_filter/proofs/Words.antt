@@ -1,5 +1,5 @@
 -- The words of this crate and of those below, passed on from one place.
-pub use Rattle.cidr_filter.specs.Filters.{Filters, FiltersLine, FirstListed, IsListed, IsVerdict, IsVerdictOfAddresses, NoneListed, TellsBlock, TellsOf, addresses_in, fresh, head_of, is_count, is_full, is_listed, is_of, is_of_family, is_refused, is_selected, is_silent, mark_of, name_head, number_head, of_family, shown, shown_of, sought_in, tally_with, text_of, texts_of}
+pub use Rattle.cidr_filter.specs.Filters.{Filters, FiltersLine, FirstListed, IsListed, IsVerdict, IsVerdictOfAddresses, NoneListed, TellsBlock, TellsOf, addresses_in, behind_name, fresh, head_of, is_count, is_full, is_listed, is_of, is_of_family, is_refused, is_selected, is_silent, mark_of, name_head, number_head, of_family, shown, shown_of, sought_in, tally_with, text_of, texts_of}
 pub use Rattle.cidr_filter.specs.Logs.{FiltersLog, FiltersLogs, both, count_line, filter_for, is_enough, label_of, missing, nothing, outcome_of, status_by}
 pub use Rattle.cidr_filter.specs.Matcher.{HasAddress, HasBlocksOf, IsIn, IsLongestBlock, IsStored, IsToldBlock, OfForms, address_named, asked, covers_named, has_address, has_form, is_among, is_read_within, is_within, reads_networks}
 pub use Rattle.cidr_filter.specs.Options.{entries}

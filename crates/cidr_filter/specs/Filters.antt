@@ -148,17 +148,21 @@ is_listed (Addresses sets) mapped found = has_form sets mapped found.address
 is_listed (Networks set) mapped found = covers_named set mapped found.text
 is_listed (Blocks tables) mapped found = false
 
--- what is printed first: with `-H`, the name of the log and a colon; with `-n`, the number of the
+-- the byte behind the name of a log: with `-Z` NUL, else a colon (58) or a line feed (10)
+abbrev pub behind_name : Bool → ℕ → ℕ
+behind_name nul other = if nul then 0 else other
+
+-- what is printed first: with `-H`, the name of the log and a colon, or with `-Z` NUL; with `-n`, the number of the
 -- line, at most 2^64 - 1, and a colon
-abbrev pub name_head : List ℕ → List ℕ
-name_head [] = []
-name_head (byte ∷ name) = byte ∷ name ++ 58 ∷ []
+abbrev pub name_head : Bool → List ℕ → List ℕ
+name_head nul [] = []
+name_head nul (byte ∷ name) = byte ∷ name ++ behind_name nul 58 ∷ []
 
 abbrev pub number_head : Bool → ℕ → List ℕ
 number_head numbered number = if numbered then decimal (min number (2 ^ 64 - 1)) ++ 58 ∷ [] else []
 
 abbrev pub head_of : Filter → ℕ → List ℕ
-head_of filter number = name_head filter.name ++ number_head filter.numbered number
+head_of filter number = name_head filter.nul filter.name ++ number_head filter.numbered number
 
 -- what was found is printed with `-o`, if it counts and is in the lists
 abbrev pub is_printed : Filter → Spelled → Bool
@@ -178,12 +182,12 @@ is_count other = false
 
 -- what is printed for a selected line; `line` is the line without its end, `text` as it is printed:
 -- the head, the mark and the line; with `-o`, its addresses that are in the lists, each after the
--- head; with `-l`, the name of its log; with `-c` and with `-q`, nothing
+-- head; with `-l`, the name of its log, and a line feed or with `-Z` NUL; with `-c` and with `-q`, nothing
 abbrev pub shown_by : OutputMode → Filter → List ℕ → Verdict → List ℕ → List ℕ → List ℕ
 shown_by shows.Lines filter head verdict line text = head ++ (mark_of filter.listed verdict ++ text)
 shown_by shows.Addresses filter head verdict line text = texts_of filter head (sought_in filter line)
 shown_by shows.Count filter head verdict line text = []
-shown_by shows.Names filter head verdict line text = filter.name ++ 10 ∷ []
+shown_by shows.Names filter head verdict line text = filter.name ++ behind_name filter.nul 10 ∷ []
 shown_by shows.Nothing filter head verdict line text = []
 
 abbrev pub shown_of : Filter → List ℕ → Verdict → List ℕ → List ℕ → List ℕ

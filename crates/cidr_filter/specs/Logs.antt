@@ -20,11 +20,11 @@ label_of named name = if named then if bytes_eq name (codes "-") then codes "(st
 abbrev pub filter_for : Filter → List ℕ → Filter
 filter_for filter name = record filter { name = label_of filter.named name }
 
--- what is printed at the end of a log if lines are counted: its label and a colon, unless the label is empty, and the
--- number of its selected lines, at most 2^64 - 1
-abbrev pub count_line : Bool → List ℕ → ℕ → List ℕ
-count_line counts label selected =
-    if counts then name_head label ++ (decimal (min selected (2 ^ 64 - 1)) ++ codes "\n") else []
+-- what is printed at the end of a log if lines are counted: its label and a colon, or with `-Z` NUL, unless the label
+-- is empty, and the number of its selected lines, at most 2^64 - 1
+abbrev pub count_line : Bool → Bool → List ℕ → ℕ → List ℕ
+count_line counts nul label selected =
+    if counts then name_head nul label ++ (decimal (min selected (2 ^ 64 - 1)) ++ codes "\n") else []
 
 -- what a log comes to: how many of its lines are selected, and whether it could not be opened or a line is missed
 abbrev pub missing : Outcome
@@ -46,7 +46,7 @@ both total one =
 abbrev pub CountsLog : Filter → Bool → Outcome → List ℕ → List ℕ → Option Tally → List ℕ → Option Outcome → Type 0
 CountsLog filter cut total name added None text next = (text ≡ added) × (next ≡ None)
 CountsLog filter cut total name added (Some tally) text next =
-    (text ≡ added ++ count_line (is_count filter.shows) (label_of filter.named name) tally.selected)
+    (text ≡ added ++ count_line (is_count filter.shows) filter.nul (label_of filter.named name) tally.selected)
     × ((next ≡ Some (both total (outcome_of filter tally))) ⊎ ((cut ≡ true) × (next ≡ None)))
 
 -- what the log with this name prints, and what the logs up to it come to, or `None` if it ends the run; it may not be

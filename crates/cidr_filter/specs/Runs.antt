@@ -71,6 +71,7 @@ filter_of items listed = record {
   shows = shows_of items;
   named = is_named items;
   numbered = is_given items own.numbered;
+  nul = is_given items own.nul;
   name = [];
 }
 

@@ -27,12 +27,15 @@ mod value;
 mod value_ids;
 
 use crate::help::{PROGRAM, USAGE};
+use crate::rows::table;
 use crate::run::run;
-use program::start::start;
+use options::operands::are_files;
+use program::start::start_on_files;
 use std::process::ExitCode;
 
 fn main(rt: HostRuntime) -> ExitCode {
-    start(&rt, PROGRAM, USAGE, |words, lists, output, errors| {
+    let takes = |words: &[String]| are_files(rt.alloc(), table().rows, words);
+    start_on_files(&rt, PROGRAM, USAGE, takes, |words, lists, output, errors| {
         run(rt.alloc(), words, lists, output, errors)
     })
 }

@@ -8,6 +8,7 @@ use crate::without_address::WithoutAddress;
 use line_addresses::{Area, Part, Pick, Place, Text};
 use lines::output::Output;
 use lists::OpenFault;
+use program::arguments::is_stand_in;
 use program::log_fault::tell_fault_of;
 use program::messages::{tell, tell_head, tell_number};
 use program::usage::tell_shown;
@@ -160,7 +161,12 @@ pub fn tell_closed<E: Write>(
     fault: OpenFault,
     errors: &mut Output<'_, E>,
 ) {
-    tell_fault_of(program, name, fault.text(), errors);
+    let text = if is_stand_in(name) {
+        ": cannot open: name is not UTF-8\n"
+    } else {
+        fault.text()
+    };
+    tell_fault_of(program, name, text, errors);
 }
 
 // Returns whether to report how many of these lines have no address.

@@ -1,11 +1,17 @@
-//! Finds what is wrong with a command line that needs a FILE and no option.
-ghost use Rattle.std.specs.Prelude.{◌≡◌};
+//! Finds what is wrong with a command line that needs a FILE and no option; and whether words that
+//! are not UTF-8 are FILEs.
+ghost use Rattle.std.specs.Prelude.{◌≡◌, ◌∷◌, [], IsTrue, true};
+ghost use Rattle.std.specs.List.{list_all};
 ghost use Rattle.std.specs.Option.{is_none};
-ghost use Rattle.options.specs.Operands.{are_right_operands};
+ghost use Rattle.options.specs.Operands.{are_right_operands, is_taken};
+ghost use Rattle.options.specs.Items.{begins, items_of};
 
 use crate::faults::{Fault, Subject, about, first_fault, has_file, is_read_once, pair_fault};
-use crate::items::Item;
-use crate::table::Table;
+use crate::items::{Item, Mode};
+use crate::reading::items_of;
+use crate::table::{Row, Table};
+use program::arguments::is_stand_in;
+use std::alloc::Global;
 
 /// Returns the first fault of a command line that needs a FILE and no option, or `None` if it has
 /// none. A FILE may be empty.
@@ -46,4 +52,46 @@ pub fn operands_fault<'a>(table: &Table<'_>, items: &[Item<'a>]) -> Option<Fault
         Subject::CommandLine,
         "-: standard input can be read only once",
     ))
+}
+
+/// Returns whether each word that stands for one that is not UTF-8 is a FILE, and the word for
+/// which it stands does not begin with `-`. So no option and no value is such a word. It is false
+/// if memory runs out.
+///
+/// ```
+/// use options::operands::are_files;
+/// use options::table::{Kind, Row, letter};
+///
+/// let rows = [letter!(b'f', File, "not a file name")];
+/// let words = [String::from_str(rt.alloc(), "-f")?, String::from_str(rt.alloc(), "\0a\\xff")?];
+/// assert!(rt; are_files(rt.alloc(), &rows, &words[1..]));
+/// assert!(rt; !are_files(rt.alloc(), &rows, &words));
+/// ```
+pub fn are_files(alloc: Global, rows: &[Row], words: &[String]) -> bool
+    ensures { IsTrue result
+        → list_all is_taken (items_of rows.now Mode.Free words.now) ≡ true }
+{
+    match items_of(alloc, rows, words) {
+        Ok(items) => items.as_slice().iter().all(|item| is_taken(item)),
+        Err(_) => false,
+    }
+}
+
+// Whether an item of a command line is no word that stands for one that is not UTF-8, unless as a
+// FILE that does not begin with `-`.
+fn is_taken(item: &Item<'_>) -> bool
+    ensures { result ≡ is_taken item.now }
+{
+    match item {
+        Item::File(name) => !stands_for_dash(name.as_str()),
+        Item::Value(_, value) | Item::Joined(_, value, _) => !is_stand_in(value.as_str()),
+        Item::Flag(_) | Item::Unknown(_) | Item::Lacks(_) => true,
+    }
+}
+
+// Whether a word stands for one that is not UTF-8 and begins with `-`.
+fn stands_for_dash(word: &str) -> bool
+    ensures { result ≡ begins (0 ∷ 45 ∷ []) word.now }
+{
+    word.as_bytes().starts_with(b"\0-".as_slice())
 }

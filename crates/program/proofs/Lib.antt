@@ -1,3 +1,4 @@
+pub mod EscapeExamples
 pub mod Examples
 pub mod HandedLines
 pub mod Known

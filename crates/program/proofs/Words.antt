@@ -19,7 +19,7 @@ pub use Rattle.lists.specs.Refusals.{Refused}
 pub use Rattle.lists.specs.declared.named.ReadFault.TheVariants.{Open, OutOfMemory, Read}
 pub use Rattle.lists.specs.declared.opening.OpenFault.{OpenFault}
 pub use Rattle.program.specs.Endings.{Ending, EndsPrinting, ending, HasTold, HasWritten, IsSilent, status_of}
-pub use Rattle.program.specs.Escapes.{escaped, escaped_behind, hex_digit}
+pub use Rattle.program.specs.Escapes.{escaped, escaped_behind, escaped_word, hex_digit, kept_at, printed as printed_byte}
 pub use Rattle.program.specs.LogFaults.{StopsBy, Wrote}
 pub use Rattle.program.specs.LogLines.{IsWhole, LogLine, content, ended, ended_lines, feed_behind, lines_in, log_line, log_lines, printed, unended}
 pub use Rattle.program.specs.LogReaders.{AreFirst, ComesNext, GivesNext, HandsFirst, OpenLog, left}

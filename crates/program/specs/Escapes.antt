@@ -1,40 +1,72 @@
--- Bytes as they are printed, with the control characters that a terminal obeys escaped.
-use Rattle.std.specs.Prelude.{ℕ, ◌+◌, ◌/◌, ◌%◌, ◌==◌, ◌&&◌, ◌||◌, Bool, not, List, [], ◌∷◌, ◌++◌, nat_lt, nat_le}
-use Rattle.std.specs.Prelude.{if◌then◌else◌, codes}
+-- Bytes as messages show them, with what a terminal obeys, and what changes how a line looks, escaped.
+use Rattle.std.specs.Prelude.{ℕ, ◌+◌, ◌-◌, ◌/◌, ◌%◌, ◌==◌, ◌&&◌, ◌||◌, Bool, true, false, not, List, [], ◌∷◌, ◌++◌}
+use Rattle.std.specs.Prelude.{if◌then◌else◌, codes, nat_lt, slice_index}
+use Rattle.std.specs.Int.{is_in_range}
+use Rattle.std.specs.Str.Lossy.{second_byte_min, second_byte_max}
 
--- the byte is from 128 to 159: a control character from U+0080 to U+009F, or the second byte of one in UTF-8
-abbrev pub is_other_control : ℕ → Bool
-is_other_control byte = nat_le 128 byte && nat_lt byte 160
+-- the length of the character that the bytes, of which there are some, begin with in UTF-8, or 0 if they begin with none
+-- (Unicode, table 3-7)
+abbrev pub width : List ℕ → ℕ
+width bytes = let first = slice_index bytes 0 in
+    if nat_lt first 0x80 then 1
+    else (if not (is_in_range 0xC2 0xF4 first) then 0
+    else (if not (is_in_range (second_byte_min first) (second_byte_max first) (slice_index bytes 1)) then 0
+    else (if nat_lt first 0xE0 then 2
+    else (if not (is_in_range 0x80 0xBF (slice_index bytes 2)) then 0
+    else (if nat_lt first 0xF0 then 3
+    else (if is_in_range 0x80 0xBF (slice_index bytes 3) then 4 else 0))))))
 
--- a byte between two others (0 stands for none) is a control character or part of one: an ASCII one other than the tab
--- (9), a byte from 128 to 159 after a byte of ASCII or after 194, or 194 before a byte from 128 to 159
-abbrev pub is_control : ℕ → ℕ → ℕ → Bool
-is_control before byte next =
-    ((nat_lt byte 32 && not (byte == 9)) || byte == 127)
-    || (is_other_control byte && (nat_lt before 128 || before == 194))
-    || (byte == 194 && is_other_control next)
+-- a byte of ASCII is a control character, and not a tab (9) that is kept
+abbrev pub is_control : Bool → ℕ → Bool
+is_control keeps_tabs byte = (nat_lt byte 32 && not (keeps_tabs && byte == 9)) || byte == 127
+
+-- three bytes of UTF-8 are a character that hides or turns others: U+200B to U+200F, U+2028 to U+202E, U+2060 to
+-- U+206F or U+FEFF
+abbrev pub is_format : ℕ → ℕ → ℕ → Bool
+is_format first second third =
+    (first == 0xE2 && second == 0x80 && (is_in_range 0x8B 0x8F third || is_in_range 0xA8 0xAE third))
+    || (first == 0xE2 && second == 0x81 && is_in_range 0xA0 0xAF third)
+    || (first == 0xEF && second == 0xBB && third == 0xBF)
+
+-- the character that three bytes of UTF-8 begin with is a control character (U+0080 to U+009F have the first byte 0xC2),
+-- or one that hides or turns others (U+061C is 0xD8 0x9C)
+abbrev pub is_hidden : Bool → ℕ → ℕ → ℕ → Bool
+is_hidden keeps_tabs first second third =
+    is_control keeps_tabs first
+    || (first == 0xC2 && nat_lt second 0xA0)
+    || (first == 0xD8 && second == 0x9C)
+    || is_format first second third
+
+-- how many bytes are shown as they are at the start of bytes, of which there are some: those of one character, or 0 if
+-- it is hidden or there is none
+abbrev pub shown_width : Bool → List ℕ → ℕ
+shown_width keeps_tabs bytes =
+    if is_hidden keeps_tabs (slice_index bytes 0) (slice_index bytes 1) (slice_index bytes 2) then 0 else width bytes
 
 -- the character of a hexadecimal digit: `0` to `9`, then `a` to `f`
 abbrev pub hex_digit : ℕ → ℕ
 hex_digit digit = if nat_lt digit 10 then 48 + digit else 87 + digit
 
--- a byte between two others (0 stands for none) as it is printed: a control character as `\x` and two hexadecimal
--- digits, any other byte unchanged
-abbrev pub printed : ℕ → ℕ → ℕ → List ℕ
-printed before byte next =
-    if is_control before byte next then codes "\\x" ++ hex_digit (byte / 16) ∷ hex_digit (byte % 16) ∷ []
-    else byte ∷ []
+-- a byte as it is printed: as it is if it is one of those that are (`kept`, at least 1), otherwise as `\x` and two
+-- hexadecimal digits
+abbrev pub printed : ℕ → ℕ → List ℕ
+printed kept byte =
+    if kept == 0 then codes "\\x" ++ hex_digit (byte / 16) ∷ hex_digit (byte % 16) ∷ [] else byte ∷ []
 
--- the first of the bytes, or 0 if there is none
-abbrev pub first_of : List ℕ → ℕ
-first_of [] = 0
-first_of (byte ∷ bytes) = byte
+-- how many bytes are shown as they are from here on, if `kept` are left of the character before
+abbrev pub kept_at : Bool → ℕ → List ℕ → ℕ
+kept_at keeps_tabs kept bytes = if kept == 0 then shown_width keeps_tabs bytes else kept
 
--- bytes that follow the byte `before`, as they are printed
-abbrev pub escaped_behind : ℕ → List ℕ → List ℕ
-escaped_behind before [] = []
-escaped_behind before (byte ∷ bytes) = printed before byte (first_of bytes) ++ escaped_behind byte bytes
+-- bytes as they are printed, of which the first `kept` are shown as they are
+abbrev pub escaped_behind : Bool → ℕ → List ℕ → List ℕ
+escaped_behind keeps_tabs kept [] = []
+escaped_behind keeps_tabs kept (byte ∷ bytes) = let now = kept_at keeps_tabs kept (byte ∷ bytes) in
+    printed now byte ++ escaped_behind keeps_tabs (now - 1) bytes
 
--- bytes as they are printed, with control characters escaped
+-- a line as it is shown: each byte that is in no character of UTF-8, or in a hidden one other than the tab, escaped
 abbrev pub escaped : List ℕ → List ℕ
-escaped bytes = escaped_behind 0 bytes
+escaped bytes = escaped_behind true 0 bytes
+
+-- a name or word as it is shown: as a line, with its tabs escaped
+abbrev pub escaped_word : List ℕ → List ℕ
+escaped_word bytes = escaped_behind false 0 bytes

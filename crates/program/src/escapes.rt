@@ -1,17 +1,23 @@
-//! Prints the texts of others, with the control characters that a terminal obeys escaped.
-ghost use Rattle.std.specs.Prelude.{◌≡◌, ◌<◌};
-ghost use Rattle.program.specs.Escapes.{is_control, first_of, hex_digit, printed, escaped};
+//! Prints the texts of others, with what a terminal obeys, and what changes how a line looks,
+//! escaped.
+ghost use Rattle.std.specs.Prelude.{◌≡◌, ◌<◌, slice_index};
+ghost use Rattle.std.specs.Int.{is_in_range};
+ghost use Rattle.std.specs.Str.Lossy.{second_byte_min, second_byte_max};
+ghost use Rattle.program.specs.Escapes.{width, is_control, is_format, is_hidden, shown_width};
+ghost use Rattle.program.specs.Escapes.{hex_digit, printed, kept_at, escaped_behind, escaped};
+ghost use Rattle.program.specs.Escapes.{escaped_word};
 ghost use Rattle.program.specs.Messages.{Reports};
 
 use crate::messages::{tell, tell_bytes};
 use lines::output::Output;
 use std::io::Write;
 
-/// Writes bytes with their control characters escaped: `\x1b` stands for the byte 27.
+/// Writes a line with what a terminal obeys or hides escaped: `\x1b` stands for the byte 27.
 ///
-/// The tab is not escaped. The characters from U+0080 to U+009F are: as a single byte after one of
-/// ASCII, and in UTF-8 with both of their bytes. If a write fails, now or earlier, the rest is
-/// lost.
+/// Escaped are the control characters, other than the tab; the characters that turn others round,
+/// end a line or are not seen, with each byte that they have in UTF-8 (U+0080 to U+009F, U+061C,
+/// U+200B to U+200F, U+2028 to U+202E, U+2060 to U+206F, U+FEFF); and each byte that is not part
+/// of a character in UTF-8. If a write fails, now or earlier, the rest is lost.
 ///
 /// ```
 /// let (mut slice, mut room) = ([0; 16], [0; 9]);
@@ -24,30 +30,56 @@ use std::io::Write;
 pub fn tell_escaped<W: Write>(bytes: &[u8], output: &mut Output<'_, W>)
     ensures { Reports output.old output.new (escaped bytes.now) }
 {
-    let mut before = 0;
+    tell_all(true, bytes, output);
+}
+
+/// Writes a name or word as `tell_escaped` writes a line, with its tabs escaped too.
+///
+/// ```
+/// let (mut slice, mut room) = ([0; 16], [0; 7]);
+/// let mut output = lines::output::Output::new(room.as_mut_slice(), &mut slice);
+/// program::escapes::tell_escaped_word(b"log\t", &mut output);
+/// assert_eq!(rt; output.finish(), Ok(()));
+/// drop(output);
+/// assert_eq!(rt; room, *b"log\\x09");
+/// ```
+pub fn tell_escaped_word<W: Write>(bytes: &[u8], output: &mut Output<'_, W>)
+    ensures { Reports output.old output.new (escaped_word bytes.now) }
+{
+    tell_all(false, bytes, output);
+}
+
+// Writes bytes with what is hidden in them escaped, and tabs too if they are not kept.
+fn tell_all<W: Write>(keeps_tabs: bool, bytes: &[u8], output: &mut Output<'_, W>)
+    ensures { Reports output.old output.new (escaped_behind keeps_tabs 0 bytes.now) }
+{
+    let mut kept = 0;
     let mut at = 0;
     while at < bytes.len() {
-        tell_byte(before, bytes[at], first_of(&bytes[at + 1..]), output);
-        before = bytes[at];
+        let now = kept_at(keeps_tabs, kept, &bytes[at..]);
+        tell_byte(now, bytes[at], output);
+        kept = now.saturating_sub(1);
         at += 1;
     }
 }
 
-// Returns the first byte, or 0 if there is none.
-fn first_of(bytes: &[u8]) -> u8
-    ensures { result ≡ first_of bytes.now }
+// Returns how many bytes are shown as they are from here on, if `kept` are left of the character
+// before.
+fn kept_at(keeps_tabs: bool, kept: usize, bytes: &[u8]) -> usize
+    ensures { result ≡ kept_at keeps_tabs kept bytes.now }
 {
-    match bytes.first() {
-        Some(byte) => *byte,
-        None => 0,
+    if kept == 0 {
+        shown_width(keeps_tabs, bytes)
+    } else {
+        kept
     }
 }
 
-// Writes a byte between two others (0 stands for none).
-fn tell_byte<W: Write>(before: u8, byte: u8, next: u8, output: &mut Output<'_, W>)
-    ensures { Reports output.old output.new (printed before byte next) }
+// Writes a byte as it is, or escaped if none is kept.
+fn tell_byte<W: Write>(kept: usize, byte: u8, output: &mut Output<'_, W>)
+    ensures { Reports output.old output.new (printed kept byte) }
 {
-    if is_control(before, byte, next) {
+    if kept == 0 {
         tell("\\x", output);
         tell_bytes(&[hex_digit(byte / 16), hex_digit(byte % 16)], output);
     } else {
@@ -55,19 +87,95 @@ fn tell_byte<W: Write>(before: u8, byte: u8, next: u8, output: &mut Output<'_, W
     }
 }
 
-// Whether a byte between two others (0 stands for none) is a control character or one of the two
-// bytes of one in UTF-8.
-fn is_control(before: u8, byte: u8, next: u8) -> bool
-    ensures { result ≡ is_control before byte next }
+// Returns how many bytes are shown as they are at the start of bytes: those of one character, or 0
+// if it is hidden or there is none.
+fn shown_width(keeps_tabs: bool, bytes: &[u8]) -> usize
+    ensures { result ≡ shown_width keeps_tabs bytes.now }
 {
-    let is_ascii = byte < 32 && byte != b'\t' || byte == 127;
-    let is_last = byte >= 128 && byte < 160 && (before < 128 || before == 194);
-    let is_first = byte == 194 && next >= 128 && next < 160;
-    is_ascii || is_last || is_first
+    let first = byte_at(bytes, 0);
+    let hidden = is_hidden(keeps_tabs, first, byte_at(bytes, 1), byte_at(bytes, 2));
+    if hidden { 0 } else { width(bytes) }
 }
 
-// Returns the character of a hexadecimal digit.
-fn hex_digit(digit: u8) -> u8
+// Returns a byte of some, or 0 behind their end.
+fn byte_at(bytes: &[u8], at: usize) -> u8
+    ensures { result ≡ slice_index bytes.now at }
+{
+    if at < bytes.len() { bytes[at] } else { 0 }
+}
+
+// Returns the length of the character that the bytes begin with in UTF-8, or 0 if they begin with
+// none.
+fn width(bytes: &[u8]) -> usize
+    ensures { result ≡ width bytes.now }
+{
+    let first = byte_at(bytes, 0);
+    if first < 0x80 {
+        1
+    } else if !is_in_range(0xC2, 0xF4, first) || !is_second(first, byte_at(bytes, 1)) {
+        0
+    } else if first < 0xE0 {
+        2
+    } else if !is_in_range(0x80, 0xBF, byte_at(bytes, 2)) {
+        0
+    } else if first < 0xF0 {
+        3
+    } else if is_in_range(0x80, 0xBF, byte_at(bytes, 3)) {
+        4
+    } else {
+        0
+    }
+}
+
+// Whether a byte may follow the first byte of a character in UTF-8.
+fn is_second(first: u8, second: u8) -> bool
+    ensures { result ≡ is_in_range (second_byte_min first) (second_byte_max first) second }
+{
+    match first {
+        0xE0 => is_in_range(0xA0, 0xBF, second),
+        0xED => is_in_range(0x80, 0x9F, second),
+        0xF0 => is_in_range(0x90, 0xBF, second),
+        0xF4 => is_in_range(0x80, 0x8F, second),
+        _ => is_in_range(0x80, 0xBF, second),
+    }
+}
+
+// Whether a byte is from the least to the greatest.
+fn is_in_range(least: u8, greatest: u8, byte: u8) -> bool
+    ensures { result ≡ is_in_range least greatest byte }
+{
+    least <= byte && byte <= greatest
+}
+
+// Whether the character that three bytes of UTF-8 begin with is hidden.
+fn is_hidden(keeps_tabs: bool, first: u8, second: u8, third: u8) -> bool
+    ensures { result ≡ is_hidden keeps_tabs first second third }
+{
+    is_control(keeps_tabs, first)
+        || first == 0xC2 && second < 0xA0
+        || first == 0xD8 && second == 0x9C
+        || is_format(first, second, third)
+}
+
+// Whether a byte is a control character of ASCII, and not a tab that is kept.
+fn is_control(keeps_tabs: bool, byte: u8) -> bool
+    ensures { result ≡ is_control keeps_tabs byte }
+{
+    byte < 32 && !(keeps_tabs && byte == b'\t') || byte == 127
+}
+
+// Whether three bytes of UTF-8 are a character that hides or turns others.
+fn is_format(first: u8, second: u8, third: u8) -> bool
+    ensures { result ≡ is_format first second third }
+{
+    let is_general = is_in_range(0x8B, 0x8F, third) || is_in_range(0xA8, 0xAE, third);
+    first == 0xE2 && second == 0x80 && is_general
+        || first == 0xE2 && second == 0x81 && is_in_range(0xA0, 0xAF, third)
+        || first == 0xEF && second == 0xBB && third == 0xBF
+}
+
+/// Returns the character of a hexadecimal digit.
+pub(crate) fn hex_digit(digit: u8) -> u8
     requires { digit < 16 }
     ensures { result ≡ hex_digit digit }
 {

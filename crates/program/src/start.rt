@@ -3,14 +3,14 @@ ghost use Rattle.std.specs.Prelude.{◌≡◌, None, Some, MatchOption, codes};
 ghost use Rattle.program.specs.Runs.{text_asked};
 ghost use Rattle.program.specs.Words.{begins_with, without_first};
 
-use crate::arguments::{ArgumentsFault, arguments};
+use crate::arguments::{ArgumentsFault, arguments, is_stand_in};
 use crate::command_line::{is, is_only};
 use crate::ending::tell_unwritten;
 use crate::progress::Progress;
 use crate::standard_error::StandardError;
 use crate::standard_output::StandardOutput;
 use crate::system::System;
-use crate::usage::refuse_arguments;
+use crate::usage::{refuse_arguments, refuse_stand_ins};
 use lines::output::Output;
 use std::cell::Cell;
 use std::io::ErrorKind;
@@ -26,7 +26,7 @@ const TOLD_MAX: usize = 1024;
 const CLOSED: u8 = 141;
 
 /// Runs a program on the words after its name, without a first `--quiet`, and returns its exit
-/// status.
+/// status. A word that is not UTF-8 is reported instead, with the exit status 2.
 ///
 /// If the arguments cannot be read, that is reported instead. If a write to standard output failed
 /// because nobody reads its pipe any more, reports that still wait are dropped, and the exit status
@@ -47,6 +47,36 @@ where
     ) -> u8,
     requires { F.IsAlwaysCallable run }
 {
+    start_on_files(rt, program, usage, |_words| false, run)
+}
+
+/// Runs a program as `start` does, also on words that stand for others that are not UTF-8, as
+/// `is_stand_in` tells them, if `takes` says of the words that they may stand there. No file opens
+/// by such a word, and messages show the word for which it stands, escaped.
+///
+/// ```
+/// let usage = "usage: sum FILE..\n";
+/// let takes = |_words: &[String]| true;
+/// let _ = program::start::start_on_files(&rt, "sum", usage, takes, |_words, _lists, _out, _errors| 0);
+/// ```
+pub fn start_on_files<G, F>(
+    rt: &HostRuntime,
+    program: &str,
+    usage: &str,
+    takes: G,
+    run: F,
+) -> ExitCode
+where
+    G: FnOnce(&[String]) -> bool,
+    F: FnOnce(
+        &[String],
+        &System<'_>,
+        &mut Output<'_, StandardOutput<'_>>,
+        &mut Output<'_, StandardError<'_>>,
+    ) -> u8,
+    requires takes { G.IsAlwaysCallable takes }
+    requires run { F.IsAlwaysCallable run }
+{
     let words = arguments(rt);
     let progress = Progress::new(rt, is_quiet(&words));
     let mut waiting = [0u8; WAITING_MAX];
@@ -59,7 +89,11 @@ where
         Ok(words) => {
             let system = System::with_progress(rt, &progress);
             let asked = without_quiet(words.as_slice());
-            run(asked, &system, &mut output, &mut errors)
+            if !has_stand_in(asked) || takes(asked) {
+                run(asked, &system, &mut output, &mut errors)
+            } else {
+                refuse_stand_ins(program, asked, usage, &mut errors)
+            }
         }
         Err(fault) => refuse_arguments(fault, program, usage, &mut errors),
     };
@@ -71,6 +105,11 @@ where
     }
     let _ = errors.finish();
     ExitCode::from(status)
+}
+
+// Whether one of the words stands for another that is not UTF-8.
+fn has_stand_in(words: &[String]) -> bool {
+    words.iter().any(|word| is_stand_in(word.as_str()))
 }
 
 // Whether no progress is shown: the first word is `--quiet`, or there is nothing to run since the

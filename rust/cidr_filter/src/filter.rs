@@ -69,6 +69,8 @@ pub struct Filter<'a> {
     pub(crate) named: bool,
     /// Whether the number of a line is printed before it.
     pub(crate) numbered: bool,
+    /// Whether a NUL byte follows the name of a log, in place of a colon or line feed.
+    pub(crate) nul: bool,
     /// The name of the log if it is printed, else empty.
     pub(crate) name: Text<'a>,
 }

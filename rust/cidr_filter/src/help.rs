@@ -46,6 +46,8 @@ Prints the lines of logs whose address is in a list of IP networks.
     -n              begin each line with its number in its FILE and a colon, after the name that -H
                     prints; with -o, each address
     -h              print no names (the default, except for -c with several FILEs)
+    -Z              put a NUL byte behind each name of a FILE that is printed, in place of the colon
+                    or, with -l, of the line feed
     --longest       begin each line with the longest network that has its address (with -a, the
                     first of its addresses that is in one), and a tab; a range counts as the fewest
                     networks that make it up. Not with -v or -c
@@ -87,7 +89,8 @@ pub(crate) const PROGRAM: &str = "cidr_filter";
 
 /// How the program is used: what is reported for arguments that are not a command, after what is
 /// wrong with them.
-pub(crate) const USAGE: &str = "usage: cidr_filter [-v] [-c] [-H | -h] [-n] [-l] [-q] [-o] [-m N] \
+pub(crate) const USAGE: &str =
+    "usage: cidr_filter [-v] [-c] [-H | -h] [-n] [-l] [-Z] [-q] [-o] [-m N] \
      [--after TEXT | [-a] [-k N] [-d CHAR | -w]] [--nth first|last|N] [-4 | -6] [--mapped] \
      [--networks] [--bad drop|keep|stop|report] [--longest] [--skip-bad] \
      (-f LIST | -e TEXT).. [FILE..]; try --help\n";

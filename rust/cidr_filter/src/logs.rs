@@ -160,7 +160,7 @@ fn filter_one<'a, L: OpenLists, W: Write, E: Write>(
                     errors,
                 );
             }
-            if put_count(filter.counts(), label, selected, output).is_ok() {
+            if put_count(filter.counts(), filter.nul, label, selected, output).is_ok() {
                 return Some(total.with(Outcome {
                     selected,
                     missed: is_missed(filter.bad, &seen),

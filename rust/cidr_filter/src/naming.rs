@@ -29,14 +29,15 @@ pub(crate) fn put_head<W: Write>(
     number: u64,
     output: &mut Output<'_, W>,
 ) -> Result<(), RunFault> {
-    put_name(filter.name.bytes(), output)?;
+    put_name(filter.nul, filter.name.bytes(), output)?;
     put_number(filter.numbered, number, output)
 }
 
 /// If lines are counted, writes how many lines of a log were selected, after the label of the log
-/// and a colon.
+/// and a colon, or NUL if `nul`.
 pub(crate) fn put_count<W: Write>(
     counts: bool,
+    nul: bool,
     label: &[u8],
     selected: u64,
     output: &mut Output<'_, W>,
@@ -44,7 +45,7 @@ pub(crate) fn put_count<W: Write>(
     if !counts {
         return Ok(());
     }
-    put_name(label, output)?;
+    put_name(nul, label, output)?;
     put_total(selected, output)
 }
 
@@ -53,13 +54,18 @@ fn put_total<W: Write>(number: u64, output: &mut Output<'_, W>) -> Result<(), Ru
     put_both(number_text(number).as_bytes(), b"\n", output)
 }
 
-// Writes the label of the log and a colon, or nothing if the label is empty.
+/// Returns the byte behind the name of a log: NUL if `nul`, else the other.
+pub(crate) fn behind_name(nul: bool, other: u8) -> u8 {
+    if nul { 0 } else { other }
+}
+
+// Writes the label of the log and a colon, or NUL if `nul`, or nothing if the label is empty.
 #[inline(always)]
-fn put_name<W: Write>(name: &[u8], output: &mut Output<'_, W>) -> Result<(), RunFault> {
+fn put_name<W: Write>(nul: bool, name: &[u8], output: &mut Output<'_, W>) -> Result<(), RunFault> {
     if name.is_empty() {
         return Ok(());
     }
-    put_both(name, b":", output)
+    put_both(name, &[behind_name(nul, b':')], output)
 }
 
 // Writes the number of a line and a colon, if lines are numbered.

@@ -4,7 +4,7 @@
 
 use crate::filter::{Filter, OutputMode, Verdict};
 use crate::matcher::Matcher;
-use crate::naming::put_head;
+use crate::naming::{behind_name, put_head};
 use crate::printing_addresses::print_addresses;
 use fosibegan_core::ipnetwork::IpNetwork;
 use cidr_programs::lines::fault::RunFault;
@@ -28,7 +28,13 @@ pub(crate) fn print_selected<W: Write>(
     match filter.shows {
         OutputMode::Lines => print_named(filter, number, verdict, whole, end, output),
         OutputMode::Addresses => print_addresses(filter, number, line, output),
-        OutputMode::Names => put_both(filter.name.bytes(), b"\n", output),
+        OutputMode::Names => {
+            put_both(
+                filter.name.bytes(),
+                &[behind_name(filter.nul, b'\n')],
+                output,
+            )
+        },
         OutputMode::Count | OutputMode::Nothing => Ok(()),
     }
 }

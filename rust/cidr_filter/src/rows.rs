@@ -55,8 +55,11 @@ pub(crate) const ONLY_V4: usize = 24;
 /// The row of `-6`.
 pub(crate) const ONLY_V6: usize = 25;
 
+/// The row of `-Z`.
+pub(crate) const NUL: usize = 26;
+
 // The options.
-const ROWS: [Row; 27] = log_rows![
+const ROWS: [Row; 28] = log_rows![
     letter!(b'e', Text, "not a network or range"),
     letter!(b'm', Number, "not a number of lines"),
     long!("--longest", Flag, false, ""),
@@ -73,6 +76,7 @@ const ROWS: [Row; 27] = log_rows![
     long!("--networks", Flag, false, ""),
     letter!(b'4', Flag, ""),
     letter!(b'6', Flag, ""),
+    letter!(b'Z', Flag, ""),
 ];
 
 // The options that may not be given together.

@@ -10,8 +10,8 @@ use crate::logs::filter_logs;
 use crate::matcher::Matcher;
 use crate::reading::{question_of, read_listed};
 use crate::rows::{
-    BAD, COUNTS, INVERTS, MOST, NAMED, NAMES, NUMBERED, ONLY, ONLY_V4, ONLY_V6, QUIET, SKIPS_BAD,
-    UNNAMED, table,
+    BAD, COUNTS, INVERTS, MOST, NAMED, NAMES, NUL, NUMBERED, ONLY, ONLY_V4, ONLY_V6, QUIET,
+    SKIPS_BAD, UNNAMED, table,
 };
 use crate::telling::{InOptions, names_of};
 use cidr_programs::line_addresses::Text;
@@ -132,6 +132,7 @@ fn filter_of<'a>(items: &[Item<'a>], files: &[String], listed: Matcher) -> Filte
         shows: shows_of(items),
         named: is_named(items, files),
         numbered: is_given(items, NUMBERED),
+        nul: is_given(items, NUL),
         name: no_name(),
     }
 }

@@ -6,6 +6,7 @@
     clippy::non_canonical_clone_impl)]
 #![forbid(unsafe_code)]
 
+use fosibegan_core::plain_std::string::String;
 use fosibegan_core::plain_std::rt::HostRuntime;
 
 mod answers;
@@ -34,13 +35,16 @@ mod value;
 mod value_ids;
 
 use crate::help::{PROGRAM, USAGE};
+use crate::rows::table;
 use crate::run::run;
-use cidr_programs::program::start::start;
+use cidr_programs::options::operands::are_files;
+use cidr_programs::program::start::start_on_files;
 use std::process::ExitCode;
 
 fn main() -> ExitCode {
     let rt = HostRuntime::new();
-    start(&rt, PROGRAM, USAGE, |words, lists, output, errors| {
+    let takes = |words: &[String]| are_files(rt.alloc(), table().rows, words);
+    start_on_files(&rt, PROGRAM, USAGE, takes, |words, lists, output, errors| {
         run(rt.alloc(), words, lists, output, errors)
     })
 }

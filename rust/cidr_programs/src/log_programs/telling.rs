@@ -8,6 +8,7 @@ use crate::log_programs::without_address::WithoutAddress;
 use crate::line_addresses::{Area, Part, Pick, Place, Text};
 use crate::lines::output::Output;
 use crate::lists::OpenFault;
+use crate::program::arguments::is_stand_in;
 use crate::program::log_fault::tell_fault_of;
 use crate::program::messages::{tell, tell_head, tell_number};
 use crate::program::usage::tell_shown;
@@ -162,7 +163,12 @@ pub fn tell_closed<E: Write>(
     fault: OpenFault,
     errors: &mut Output<'_, E>,
 ) {
-    tell_fault_of(program, name, fault.text(), errors);
+    let text = if is_stand_in(name) {
+        ": cannot open: name is not UTF-8\n"
+    } else {
+        fault.text()
+    };
+    tell_fault_of(program, name, text, errors);
 }
 
 // Returns whether to report how many of these lines have no address.

@@ -1,12 +1,17 @@
 // Written by scripts/plain out of crates/options/src/operands.rt
 
-//! Finds what is wrong with a command line that needs a FILE and no option.
+//! Finds what is wrong with a command line that needs a FILE and no option; and whether words that
+//! are not UTF-8 are FILEs.
 
+use fosibegan_core::plain_std::string::String;
 use crate::options::faults::{
     Fault, Subject, about, first_fault, has_file, is_read_once, pair_fault,
 };
-use crate::options::items::Item;
-use crate::options::table::Table;
+use crate::options::items::{Item, Mode};
+use crate::options::reading::items_of;
+use crate::options::table::{Row, Table};
+use crate::program::arguments::is_stand_in;
+use fosibegan_core::plain_std::alloc::Global;
 
 /// Returns the first fault of a command line that needs a FILE and no option, or `None` if it has
 /// none. A FILE may be empty.
@@ -46,4 +51,43 @@ pub fn operands_fault<'a>(table: &Table<'_>, items: &[Item<'a>]) -> Option<Fault
         Subject::CommandLine,
         "-: standard input can be read only once",
     ))
+}
+
+/// Returns whether each word that stands for one that is not UTF-8 is a FILE, and the word for
+/// which it stands does not begin with `-`. So no option and no value is such a word. It is false
+/// if memory runs out.
+///
+/// ```
+/// # use cidr_programs::in_examples::*;
+/// # ended(|| {
+/// use cidr_programs::options::operands::are_files;
+/// use cidr_programs::options::table::{Kind, Row, letter};
+///
+/// let rows = [letter!(b'f', File, "not a file name")];
+/// let words = [String::from_str(Global, "-f")?, String::from_str(Global, "\0a\\xff")?];
+/// assert!(are_files(Global, &rows, &words[1..]));
+/// assert!(!are_files(Global, &rows, &words));
+/// # Ok(())
+/// # });
+/// ```
+pub fn are_files(alloc: Global, rows: &[Row], words: &[String]) -> bool {
+    match items_of(alloc, rows, words) {
+        Ok(items) => items.as_slice().iter().all(|item| is_taken(item)),
+        Err(_) => false,
+    }
+}
+
+// Whether an item of a command line is no word that stands for one that is not UTF-8, unless as a
+// FILE that does not begin with `-`.
+fn is_taken(item: &Item<'_>) -> bool {
+    match item {
+        Item::File(name) => !stands_for_dash(name.as_str()),
+        Item::Value(_, value) | Item::Joined(_, value, _) => !is_stand_in(value.as_str()),
+        Item::Flag(_) | Item::Unknown(_) | Item::Lacks(_) => true,
+    }
+}
+
+// Whether a word stands for one that is not UTF-8 and begins with `-`.
+fn stands_for_dash(word: &str) -> bool {
+    word.as_bytes().starts_with(b"\0-".as_slice())
 }

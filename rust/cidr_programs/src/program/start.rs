@@ -5,14 +5,14 @@
 use fosibegan_core::plain_std::vec::Vec;
 use fosibegan_core::plain_std::string::String;
 use fosibegan_core::plain_std::rt::HostRuntime;
-use crate::program::arguments::{ArgumentsFault, arguments};
+use crate::program::arguments::{ArgumentsFault, arguments, is_stand_in};
 use crate::program::command_line::{is, is_only};
 use crate::program::ending::tell_unwritten;
 use crate::program::progress::Progress;
 use crate::program::standard_error::StandardError;
 use crate::program::standard_output::StandardOutput;
 use crate::program::system::System;
-use crate::program::usage::refuse_arguments;
+use crate::program::usage::{refuse_arguments, refuse_stand_ins};
 use crate::lines::output::Output;
 use std::cell::Cell;
 use fosibegan_core::plain_std::io::ErrorKind;
@@ -28,7 +28,7 @@ const TOLD_MAX: usize = 1024;
 const CLOSED: u8 = 141;
 
 /// Runs a program on the words after its name, without a first `--quiet`, and returns its exit
-/// status.
+/// status. A word that is not UTF-8 is reported instead, with the exit status 2.
 ///
 /// If the arguments cannot be read, that is reported instead. If a write to standard output failed
 /// because nobody reads its pipe any more, reports that still wait are dropped, and the exit status
@@ -37,6 +37,29 @@ const CLOSED: u8 = 141;
 #[doc(hidden)]
 pub fn start<F>(rt: &HostRuntime, program: &str, usage: &str, run: F) -> ExitCode
 where
+    F: FnOnce(
+        &[String],
+        &System<'_>,
+        &mut Output<'_, StandardOutput<'_>>,
+        &mut Output<'_, StandardError<'_>>,
+    ) -> u8,
+{
+    start_on_files(rt, program, usage, |_words| false, run)
+}
+
+/// Runs a program as `start` does, also on words that stand for others that are not UTF-8, as
+/// `is_stand_in` tells them, if `takes` says of the words that they may stand there. No file opens
+/// by such a word, and messages show the word for which it stands, escaped.
+#[doc(hidden)]
+pub fn start_on_files<G, F>(
+    rt: &HostRuntime,
+    program: &str,
+    usage: &str,
+    takes: G,
+    run: F,
+) -> ExitCode
+where
+    G: FnOnce(&[String]) -> bool,
     F: FnOnce(
         &[String],
         &System<'_>,
@@ -56,7 +79,11 @@ where
         Ok(words) => {
             let system = System::with_progress(rt, &progress);
             let asked = without_quiet(words.as_slice());
-            run(asked, &system, &mut output, &mut errors)
+            if !has_stand_in(asked) || takes(asked) {
+                run(asked, &system, &mut output, &mut errors)
+            } else {
+                refuse_stand_ins(program, asked, usage, &mut errors)
+            }
         }
         Err(fault) => refuse_arguments(fault, program, usage, &mut errors),
     };
@@ -68,6 +95,11 @@ where
     }
     let _ = errors.finish();
     ExitCode::from(status)
+}
+
+// Whether one of the words stands for another that is not UTF-8.
+fn has_stand_in(words: &[String]) -> bool {
+    words.iter().any(|word| is_stand_in(word.as_str()))
 }
 
 // Whether no progress is shown: the first word is `--quiet`, or there is nothing to run since the

@@ -2,15 +2,16 @@
 
 //! Reports a command line that the program does not accept or cannot read.
 
-use crate::program::arguments::ArgumentsFault;
+use fosibegan_core::plain_std::string::String;
+use crate::program::arguments::{ArgumentsFault, is_stand_in};
 use crate::program::ending::FAILED;
-use crate::program::escapes::tell_escaped;
-use crate::program::messages::{tell, tell_of};
+use crate::program::escapes::tell_escaped_word;
+use crate::program::messages::{tell, tell_head, tell_of};
 use crate::lines::output::Output;
 use fosibegan_core::plain_std::io::Write;
 
-/// Writes a word as messages show it: an empty word as `''`, any other with control characters
-/// escaped.
+/// Writes a word as messages show it: an empty word as `''`, any other with what
+/// `tell_escaped_word` escapes, without the NUL of one that `is_stand_in` tells.
 ///
 /// ```
 /// # use cidr_programs::in_examples::*;
@@ -22,10 +23,10 @@ use fosibegan_core::plain_std::io::Write;
 /// assert_eq!(room, *b"''");
 /// ```
 pub fn tell_shown<E: Write>(word: &[u8], errors: &mut Output<'_, E>) {
-    if word.is_empty() {
-        tell("''", errors);
-    } else {
-        tell_escaped(word, errors);
+    match word {
+        [] => tell("''", errors),
+        [0, rest @ ..] => tell_escaped_word(rest, errors),
+        _ => tell_escaped_word(word, errors),
     }
 }
 
@@ -59,4 +60,38 @@ pub fn refuse_arguments<E: Write>(
             FAILED
         }
     }
+}
+
+/// Reports each word that stands for another that is not UTF-8, and the usage, and returns the exit
+/// status 2.
+///
+/// ```
+/// # use cidr_programs::in_examples::*;
+/// # ended(|| {
+/// use cidr_programs::program::usage::refuse_stand_ins;
+///
+/// let (mut slice, mut room) = ([0; 64], [b'.'; 64]);
+/// let mut errors = cidr_programs::lines::output::Output::new(room.as_mut_slice(), &mut slice);
+/// let words = [String::from_str(Global, "\0log\\xff")?];
+/// assert_eq!(refuse_stand_ins("sum", &words, "usage: sum FILE\n", &mut errors), 2);
+/// assert_eq!(errors.finish(), Ok(()));
+/// drop(errors);
+/// assert!(room.starts_with(b"sum: log\\xff: not UTF-8\nusage: sum FILE\n"));
+/// # Ok(())
+/// # });
+/// ```
+pub fn refuse_stand_ins<E: Write>(
+    program: &str,
+    words: &[String],
+    usage: &str,
+    errors: &mut Output<'_, E>,
+) -> u8 {
+    for word in words {
+        if is_stand_in(word.as_str()) {
+            tell_head(program, word.as_str(), errors);
+            tell(": not UTF-8\n", errors);
+        }
+    }
+    tell(usage, errors);
+    FAILED
 }

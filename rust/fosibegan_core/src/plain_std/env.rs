@@ -35,8 +35,11 @@ impl<R: Env> Env for (R, Global) {
     }
 }
 
+/// The words of the command line.
+pub type Args = IntoIter<String>;
+
 /// The words of the command line, the program's own name first. One that is not UTF-8 is an error.
-pub fn args<R: Env>(of: &R) -> io::Result<IntoIter<String>> {
+pub fn args<R: Env>(of: &R) -> io::Result<Args> {
     let (mut words, mut room) = (Vec::new(), Vec::new());
     grow(&mut room)?;
     loop {
