@@ -1,7 +1,7 @@
 -- Values at which a misreading of the definitions would show.
-use Rattle.cidr_join.proofs.Words.{◌≡◌, ◌^◌, ◌+◌, ◌∷◌, [], map, Bool, true, false, refl, codes, filter, None, digits, range_with_len, only, WithoutAddress, is_blank, is_word, block_in, is_left_out, is_refused, mark_of, shown_of, entries, pairs, lacks_tally, row_text, are_right_by, free_items, free_mode, rows_of, pairs_of, Value}
+use Rattle.cidr_join.proofs.Words.{◌≡◌, ◌^◌, ◌+◌, ◌∷◌, [], map, Bool, true, false, refl, codes, None, digits, only, WithoutAddress, block_in, is_left_out, is_refused, mark_of, shown_of, entries, pairs, lacks_tally, row_text, are_right_by, free_items, free_mode, rows_of, pairs_of, Value}
 use Rattle.cidr_join.proofs.Words.{ℕ, Some, inl, inr, Finds, FindsEither, Found, IpNetwork, Join, Routes}
-use Rattle.std.specs.Prelude.{not, List}
+use Rattle.std.specs.Prelude.{List}
 use Rattle.line_addresses.proofs.Areas.{anywhere}
 use Rattle.cidr_join.specs.Routes.{IsLongestRoute, NoRouteHolds}
 use Rattle.cidr_join.specs.declared.answers.Answers.TheVariants as answers
@@ -111,16 +111,6 @@ pub value_of_ipv4_first : (routes : Routes) (first second : IpNetwork) (value : 
     → (network : IpNetwork) × IsLongestRoute routes first network value
 value_of_ipv4_first routes first second value (inl finds) some = finds.0
 value_of_ipv4_first routes first second value (inr finds) some = absurd (some finds.0)
-
--- ---- lines of lists
-
--- of the 256 bytes, all but a tab, a space and a comma belong to the word that names a network
-pub no_words : filter (λ byte. not (is_word byte)) (range_with_len 0 256) ≡ 9 ∷ 32 ∷ 44 ∷ []
-no_words = refl
-
--- a tab, a carriage return and a space are blanks, and no other byte is
-pub blanks : filter is_blank (range_with_len 0 256) ≡ 9 ∷ 13 ∷ 32 ∷ []
-blanks = refl
 
 -- ---- what is printed
 

@@ -1,6 +1,8 @@
 pub mod Examples
 pub mod Known
+pub mod LineExamples
 pub mod Lines
+pub mod LinesRead
 pub mod Listing
 pub mod ListsInTurn
 pub mod LogsInTurn

@@ -1,5 +1,5 @@
 -- How the lines of a list are taken, one after another.
-use Rattle.cidr_join.proofs.Words.{◌≡◌, ℕ, ◌≤◌, Bool, false, List, [], ◌∷◌, ◌++◌, length, take, refl, inr, sym, ap, subst, ◌∙◌, append_assoc, append-nil, Some, Result, Ok, Err, OnOk, IfErr, insert, Network, block_of, ReadsEntry, Entry, EntryFault, trimmed, is_skipped, entry_len, entry_part, EntryFails, Says, LineFaults, Values, SetsAll, IsGoodEntry, SetsEntry, EntryHasOne, IsRefusal, Keeps, TakesLine, LineFails, ListRules, Networks, RouteFault, Value}
+use Rattle.cidr_join.proofs.Words.{◌≡◌, ℕ, Bool, true, false, List, [], ◌∷◌, ◌++◌, refl, inr, sym, ap, subst, ◌∙◌, append_assoc, append-nil, Option, None, Some, Result, Ok, Err, OnOk, IfErr, insert, Network, block_of, ReadsEntry, Entry, Pair, trimmed, addresses_of, entry_part, Names, Says, Values, SetsAll, IsGoodEntry, SetsEntry, EntryHasOne, IsRefusal, Keeps, TakesLine, LineFails, ListRules, Networks, RouteFault, Value}
 use Rattle.lists.specs.declared.entry.Entry.TheVariants as entries
 use Rattle.cidr_join.specs.declared.line.Cause.TheVariants as causes
 use Rattle.cidr_join.specs.declared.routes.RouteFault.TheVariants as routes
@@ -56,43 +56,48 @@ pub only_memory : (P : Type 0) (fault : RouteFault) → ¬ P → IsRefusal P fau
 only_memory P routes.OutOfMemory none h = refl
 only_memory P (routes.Refused (causes.Entry fault)) none h = absurd h
 only_memory P (routes.Refused causes.Value) none h = absurd h
+only_memory P (routes.Refused causes.Second) none h = absurd h
 only_memory P (routes.Refused causes.Twice) none h = absurd (none h)
 only_memory P (routes.Refused causes.Length) none h = absurd h
 
 -- ---- one line
 
-pub good_entry : (text : List ℕ) (entry : Entry) → ReadsEntry text (Ok (Some entry)) → IsGoodEntry entry
+good_entry : (text : List ℕ) (entry : Entry) → ReadsEntry text (Ok (Some entry)) → IsGoodEntry entry
 good_entry text (entries.Network n) h = tt
 good_entry text (entries.Range first last) h = h.1.2
 
--- a line that does not begin with a network or range
-pub entry_fails : (bare : Bool) (line text : List ℕ) (end : ℕ) (fault : EntryFault) → length line ≤ 1024
-    → text ≡ trimmed line → is_skipped text ≡ false → end ≡ entry_len text
-    → EntryFails (take end text) fault → LineFaults bare line (causes.Entry fault)
-entry_fails bare line text end fault short is some at h =
-    let part : take end text ≡ entry_part (trimmed line) = ap (λ n. take n text) at ∙ ap entry_part is in
-    ((short, sym (ap is_skipped is) ∙ some), subst (λ (p : List ℕ). EntryFails p fault) part h)
+good_named : (ranges : Bool) (text : List ℕ) (pair : Option Pair) (entry : Entry) (value : List ℕ)
+    → Names ranges text pair entry value → IsGoodEntry entry
+good_named true text (Some pair) entry value h = subst (λ (e : Entry). IsGoodEntry e) (sym h.0) h.1
+good_named true text None entry value h = good_entry (entry_part text) entry h.0
+good_named false text pair entry value h = good_entry (entry_part text) entry h.1.0
+
+pub good_said : (bare ranges : Bool) (line : List ℕ) (entry : Entry) (value : Value)
+    → Says bare ranges line entry value → IsGoodEntry entry
+good_said bare ranges line entry value says =
+    good_named ranges (trimmed line) (addresses_of (trimmed line)) entry value.bytes.now says.1
 
 pub line_set : {T E : Type 0} (result : Result T E) (rules : ListRules) (before after : Networks) (line : List ℕ)
-    (entry : Entry) (value : Value) → Says rules.bare line entry value
+    (entry : Entry) (value : Value) → Says rules.bare rules.ranges line entry value
     → OnOk result (SetsEntry rules.last_wins before entry value after) → OnOk result (TakesLine rules before line after)
 line_set (Ok done) rules before after line entry value says h = inr (entry, value, says, h)
 line_set (Err fault) rules before after line entry value says h = tt
 
 fault_has : (fault : RouteFault) (rules : ListRules) (before : Networks) (line : List ℕ) (entry : Entry) (value : Value)
-    → Says rules.bare line entry value
+    → Says rules.bare rules.ranges line entry value
     → IsRefusal (EntryHasOne rules.last_wins before entry) fault → LineFails rules before line fault
 fault_has routes.OutOfMemory rules before line entry value says h = tt
 fault_has (routes.Refused (causes.Entry fault)) rules before line entry value says h = absurd h
 fault_has (routes.Refused causes.Value) rules before line entry value says h = absurd h
+fault_has (routes.Refused causes.Second) rules before line entry value says h = absurd h
 fault_has (routes.Refused causes.Twice) rules before line entry value says h = (entry, value, says, h)
 fault_has (routes.Refused causes.Length) rules before line entry value says h = absurd h
 
 pub line_has : {T : Type 0} (result : Result T RouteFault) (rules : ListRules) (before : Networks) (line : List ℕ)
-    (entry : Entry) (value : Value) → Says rules.bare line entry value
+    (entry : Entry) (value : Value) → Says rules.bare rules.ranges line entry value
     → IfErr result (IsRefusal (EntryHasOne rules.last_wins before entry)) → IfErr result (LineFails rules before line)
 line_has (Ok done) rules before line entry value says h = tt
 line_has (Err fault) rules before line entry value says h = fault_has fault rules before line entry value says h
 
 -- what follows from what a line says
-pub ruleset line_said = (good_entry, line_set, line_has)
+pub ruleset line_said = (good_said, line_set, line_has)

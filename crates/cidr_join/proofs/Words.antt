@@ -1,13 +1,15 @@
 -- The words of this crate and of those below, passed on from one place.
 pub use Rattle.byte_search.specs.Bytes.{IsAbsent, IsNext}
 pub use Rattle.cidr_join.specs.Asked.{network_read, only}
-pub use Rattle.cidr_join.specs.Entries.{EntryFails, LineFaults, Says, entry_len, entry_part, is_blank, is_skipped, is_word, trimmed}
+pub use Rattle.cidr_join.specs.Entries.{EntryFails, LineFaults, Names, NamesNone, Says, SaysSomething, entry_len, entry_part, first_word, is_blank, is_gap, is_name, is_skipped, is_word, trimmed, value_behind, value_of, value_part, word_len}
+unfoldable pub use Rattle.cidr_join.specs.Entries.{addresses_of}
 pub use Rattle.cidr_join.specs.Groups.{block_in}
 pub use Rattle.cidr_join.specs.Joins.{Finds, FindsBy, FindsEither, GivesLine, asked_in, counted_for, counted_in, is_left_out, is_long, is_refused, mark_of, network_in, never, seen_with, shown_in, shown_of}
 pub use Rattle.cidr_join.specs.Lists.{AreRead, NotRead, lines_of, list_in, list_text, lists_of}
 pub use Rattle.cidr_join.specs.Logs.{GivesOne}
 pub use Rattle.cidr_join.specs.Longest.{FindsOver, HasAll, IsLongestOver, NoneHasAll}
 pub use Rattle.cidr_join.specs.Options.{entries, pairs}
+pub use Rattle.cidr_join.specs.Pairs.{AreNoRange, are_alike, two_of}
 pub use Rattle.cidr_join.specs.Private.Counting.{Counted, CountsTexts, found_for, named_by, named_if, repeated, row_of, some_count}
 pub use Rattle.cidr_join.specs.Private.Listing.{EndsLines, GoesOn, LineFails, TellsUnread, TellsUntaken, Unread, left_out}
 pub use Rattle.cidr_join.specs.Private.Numbering.{AddsNumbers, AnswersOver, AreNumbered, IsNumbering, NumbersRoutes, StandsFor, StandsForEither, found_by, founds_of, number_or_none}
@@ -27,6 +29,7 @@ pub use Rattle.cidr_join.specs.declared.line.Cause.{Cause}
 pub use Rattle.cidr_join.specs.declared.list.ListRules.{ListRules}
 pub use Rattle.cidr_join.specs.declared.list.Listing.{Listing}
 pub use Rattle.cidr_join.specs.declared.list.TakeFault.{TakeFault}
+pub use Rattle.cidr_join.specs.declared.pair.Pair.{Pair}
 pub use Rattle.cidr_join.specs.declared.reading.ReadList.{ReadList}
 pub use Rattle.cidr_join.specs.declared.routes.Networks.{Networks}
 pub use Rattle.cidr_join.specs.declared.routes.RouteFault.{RouteFault}
@@ -35,6 +38,9 @@ pub use Rattle.cidr_join.specs.declared.tally.Tally.{Tally}
 pub use Rattle.cidr_join.specs.declared.value.Value.{Value}
 pub use Rattle.cidr_join.specs.declared.value_ids.ValueIds.{ValueIds}
 pub use Rattle.ipnetwork.specs.declared.ip_network.IpNetwork.{IpNetwork}
+pub use Rattle.ipnetwork_addr.specs.Computed.Either.{ip_of}
+unfoldable pub use Rattle.ipnetwork_addr.specs.Computed.Ipv6Text.{gap_below, v6_of}
+pub use Rattle.ipnetwork_addr.specs.Computed.Reading.{answer_from}
 pub use Rattle.ipnetwork_family.proofs.Blocks.{block_begins, subnet_from, subnet_prefix}
 pub use Rattle.ipnetwork_family.proofs.BlocksAt.{block_at_holds, block_at_is}
 pub use Rattle.ipnetwork_family.specs.Network.{HostBitsAreZero, IsNetwork, Member, Network, block_at, block_of, network_cmp}
@@ -49,7 +55,7 @@ pub use Rattle.lines.specs.Watched.{device_of, has_failed}
 pub use Rattle.lines.specs.declared.line_end.LineEnd.{LineEnd}
 pub use Rattle.lines.specs.declared.line_end.LineEnd.TheVariants.{EndOfInput, LineFeed, ReturnAndLineFeed}
 pub use Rattle.lists.specs.Bytes.{BytesStop}
-pub use Rattle.lists.specs.Entries.{ReadsEntry}
+pub use Rattle.lists.specs.Entries.{IsRange, ReadsEntry}
 pub use Rattle.lists.specs.KnownLists.{KnownLists}
 pub use Rattle.lists.specs.declared.bytes.BytesFault.{BytesFault}
 pub use Rattle.lists.specs.declared.entry.Entry.{Entry}
@@ -107,7 +113,8 @@ unfoldable pub use Rattle.std.specs.Map.{KeepsOthers}
 pub use Rattle.std.specs.Map.{AreApart, IsKeyTest, keys_of, lookup}
 pub use Rattle.std.specs.Option.{is_some, option_copied_mut, unwrap_or}
 pub use Rattle.std.specs.Ordering.{eq_by_cmp, is_lt}
-pub use Rattle.std.specs.Prelude.{Err, IfErr, IfOk, IsSome, IsTrue, None, Ok, OnErr, OnOk, Option, Result, Some, Vec, codes, filter, if◌then◌else◌, is_err, nat_eq, vec_len}
+pub use Rattle.std.specs.Prelude.{Err, IfErr, IfOk, IsSome, IsTrue, None, Ok, OnErr, OnOk, Option, Result, Some, Vec, codes, filter, if◌then◌else◌, is_err, nat_eq, vec_len, ◌≢◌}
+pub use Rattle.std.specs.Result.{result_ok}
 pub use Rattle.std.specs.Str.{bytes_eq}
 pub use Rattle.std.specs.String.{string_bytes}
 pub use Rattle.std.specs.declared.cmp.Reverse.{Reverse}

@@ -7,6 +7,7 @@ pub mod Lists
 pub mod Logs
 pub mod Longest
 pub mod Options
+pub mod Pairs
 pub mod Private
 pub mod Routes
 pub mod Runs

@@ -94,6 +94,7 @@ abbrev pub IsRefusal : Type 0 → RouteFault → Type 0
 IsRefusal repeated faults.OutOfMemory = Unit {0}
 IsRefusal repeated (faults.Refused (causes.Entry fault)) = ⊥
 IsRefusal repeated (faults.Refused causes.Value) = ⊥
+IsRefusal repeated (faults.Refused causes.Second) = ⊥
 IsRefusal repeated (faults.Refused causes.Twice) = repeated
 IsRefusal repeated (faults.Refused causes.Length) = ⊥
 

@@ -12,16 +12,17 @@ use Rattle.cidr_join.specs.declared.value.Value.{Value}
 -- by these rules, the line is taken: it says nothing, or its network or the blocks of its range get its value
 abbrev pub TakesLine : ListRules → Networks → List ℕ → Networks → Type 0
 TakesLine rules before line after = (SaysNothing line × (after ≡ before))
-    ⊎ ((entry : Entry) × (value : Value) × Says rules.bare line entry value
+    ⊎ ((entry : Entry) × (value : Value) × Says rules.bare rules.ranges line entry value
     × SetsEntry rules.last_wins before entry value after)
 
 -- why the line is refused
 abbrev pub RefusesLine : ListRules → Networks → List ℕ → Cause → Type 0
-RefusesLine rules before line (causes.Entry fault) = LineFaults rules.bare line (causes.Entry fault)
-RefusesLine rules before line causes.Value = LineFaults rules.bare line causes.Value
-RefusesLine rules before line causes.Twice = (entry : Entry) × (value : Value) × Says rules.bare line entry value
+RefusesLine rules before line (causes.Entry fault) = LineFaults rules.bare rules.ranges line (causes.Entry fault)
+RefusesLine rules before line causes.Value = LineFaults rules.bare rules.ranges line causes.Value
+RefusesLine rules before line causes.Twice = (entry : Entry) × (value : Value) × Says rules.bare rules.ranges line entry value
     × EntryHasOne rules.last_wins before entry
-RefusesLine rules before line causes.Length = LineFaults rules.bare line causes.Length
+RefusesLine rules before line causes.Second = LineFaults rules.bare rules.ranges line causes.Second
+RefusesLine rules before line causes.Length = LineFaults rules.bare rules.ranges line causes.Length
 
 -- these lines are taken in turn, after others that gave the networks `before`: what all give, or `None` if a line that
 -- is refused ends the run, since refused lines are not skipped

@@ -1,8 +1,9 @@
 //! What a line of a list says.
 ghost use Rattle.std.specs.Prelude.{◌≡◌, ◌≤◌, length, Some, Ok, IfOk, IfErr};
 ghost use Rattle.lists.specs.Entries.{ReadsEntry};
-ghost use Rattle.cidr_join.specs.Entries.{ReadsRoute, EntryFails, is_skipped, tail_len, dash_len, entry_len, value_part, behind_comma};
+ghost use Rattle.cidr_join.specs.Entries.{ReadsRoute, Names, NamesNone, EntryFails, addresses_of, is_skipped, tail_len, dash_len, ends_len, entry_len, value_part, value_behind, behind_comma};
 
+use crate::pair::pair_of;
 use crate::value::Value;
 use lists::{ByteKind, Entry, EntryFault, LINE_MAX, front_len, read_entry, trim};
 
@@ -13,6 +14,8 @@ pub enum Cause {
     Entry(EntryFault),
     /// No value follows its network or range.
     Value,
+    /// A second address of the same family follows its address.
+    Second,
     /// Its network, or one of the blocks of its range, already has a value.
     Twice,
     /// It has more than 1,024 bytes.
@@ -25,6 +28,7 @@ impl Cause {
         match self {
             Cause::Entry(fault) => fault.text(),
             Cause::Value => "value: there is none",
+            Cause::Second => "second address: with --ranges, FIRST LAST is a range",
             Cause::Twice => "repetition",
             Cause::Length => "length",
         }
@@ -41,9 +45,14 @@ pub struct RouteEntry<'a> {
 }
 
 /// Returns what a line says: nothing if it is blank or begins with `#` or `;`. If `bare`, the value
-/// may be missing. Returns the cause if the line is refused.
-pub(crate) fn read_route(line: &[u8], bare: bool) -> Result<Option<RouteEntry<'_>>, Cause>
-    ensures { ReadsRoute bare line.now result }
+/// may be missing. An address that is followed by a second one is the first of a range if `ranges`,
+/// else refused. Returns the cause if the line is refused.
+pub(crate) fn read_route(
+    line: &[u8],
+    bare: bool,
+    ranges: bool,
+) -> Result<Option<RouteEntry<'_>>, Cause>
+    ensures { ReadsRoute bare ranges line.now result }
 {
     if line.len() > LINE_MAX {
         return Err(Cause::Length);
@@ -52,17 +61,42 @@ pub(crate) fn read_route(line: &[u8], bare: bool) -> Result<Option<RouteEntry<'_
     if is_skipped(text) {
         return Ok(None);
     }
-    let end = entry_len(text);
-    let entry = match entry_of(&text[..end]) {
-        Ok(entry) => entry,
-        Err(fault) => return Err(Cause::Entry(fault)),
+    let said = match read_text(text, ranges) {
+        Ok(said) => said,
+        Err(cause) => return Err(cause),
     };
-    let value = value_part(&text[end..]);
-    if value.is_empty() && !bare {
+    if said.value.bytes().is_empty() && !bare {
         return Err(Cause::Value);
     }
-    let value = Value::new(value);
-    Ok(Some(RouteEntry { entry, value }))
+    Ok(Some(said))
+}
+
+// Returns the network or range that a text begins with, and the value behind it, or why there is
+// none.
+fn read_text(text: &[u8], ranges: bool) -> Result<RouteEntry<'_>, Cause>
+    ensures ok { IfOk result (λ said.
+        Names ranges text.now (addresses_of text.now) said.entry said.value.bytes.now) }
+    ensures err { IfErr result (NamesNone ranges text.now (addresses_of text.now)) }
+{
+    let end = entry_len(text);
+    let (front, value) = (&text[..end], value_part(&text[end..]));
+    match pair_of(front, &value[..front_len::<OfWord>(value)]) {
+        Some(pair) if ranges => match pair.range() {
+            Some(entry) => Ok(RouteEntry {
+                entry,
+                value: Value::new(value_behind(value)),
+            }),
+            None => Err(Cause::Entry(EntryFault::Range)),
+        },
+        Some(pair) if pair.are_one_family() => Err(Cause::Second),
+        _ => match entry_of(front) {
+            Ok(entry) => Ok(RouteEntry {
+                entry,
+                value: Value::new(value),
+            }),
+            Err(fault) => Err(Cause::Entry(fault)),
+        },
+    }
 }
 
 // Returns the network or range that a text is, read as a line of a list of networks. An empty text
@@ -88,41 +122,59 @@ fn is_skipped(text: &[u8]) -> bool
     }
 }
 
-// Returns the length of the network or range that a text begins with: up to the end of its first
-// word, or, if a `-` follows that word, with or without spaces, of the word after the `-`.
+// Returns the length of the network or range that a text begins with, and of what a `-` behind it
+// adds, which makes it neither.
 fn entry_len(text: &[u8]) -> usize
     ensures len { result ≡ entry_len text.now }
     ensures within { result ≤ length text.now }
 {
-    let word = front_len::<OfWord>(text);
-    word + tail_len(&text[word..])
+    let ends = ends_len(text);
+    ends + tail_len(&text[ends..])
 }
 
-// The length of the spaces, the `-`, the spaces and the word that a text begins with, or 0.
+// Returns the length of the network or range that a text begins with: up to the end of its first
+// name, or, if a `-` follows that, of the name after the `-`.
+fn ends_len(text: &[u8]) -> usize
+    ensures len { result ≡ ends_len text.now }
+    ensures within { result ≤ length text.now }
+{
+    let name = front_len::<OfName>(text);
+    name + tail_len(&text[name..])
+}
+
+// The length of the `-` and the name that a text begins with, each behind spaces and tabs or none,
+// or 0.
 fn tail_len(text: &[u8]) -> usize
     ensures len { result ≡ tail_len text.now }
     ensures within { result ≤ length text.now }
 {
-    let spaces = front_len::<Space>(text);
-    let dash = dash_len(&text[spaces..]);
+    let gap = front_len::<Gap>(text);
+    let dash = dash_len(&text[gap..]);
     if dash == 0 {
         return 0;
     }
-    spaces + dash
+    gap + dash
 }
 
-// The length of the `-`, the spaces and the word that a text begins with, or 0.
+// The length of the `-`, the spaces and tabs and the name that a text begins with, or 0.
 fn dash_len(text: &[u8]) -> usize
     ensures len { result ≡ dash_len text.now }
     ensures within { result ≤ length text.now }
 {
     match text.split_first() {
         Some((byte, rest)) if *byte == b'-' => {
-            let spaces = front_len::<Space>(rest);
-            1 + spaces + front_len::<OfWord>(&rest[spaces..])
+            let gap = front_len::<Gap>(rest);
+            1 + gap + front_len::<OfName>(&rest[gap..])
         }
         _ => 0,
     }
+}
+
+// Returns what follows the first word of a value, as a value.
+fn value_behind(value: &[u8]) -> &[u8]
+    ensures { result.now ≡ value_behind value.now }
+{
+    value_part(&value[front_len::<OfWord>(value)..])
 }
 
 // Returns what follows blanks and at most one comma, without the blanks around it.
@@ -155,16 +207,16 @@ impl ByteKind for Blank {
     }
 }
 
-// A space.
-struct Space;
+// A space or a tab.
+struct Gap;
 
-impl ByteKind for Space {
-    ghost use Rattle.cidr_join.specs.Entries.{is_space};
+impl ByteKind for Gap {
+    ghost use Rattle.cidr_join.specs.Entries.{is_gap};
 
-    ghost is_one = { is_space };
+    ghost is_one = { is_gap };
 
     fn has(byte: u8) -> bool {
-        byte == b' '
+        byte == b' ' || byte == b'\t'
     }
 }
 
@@ -178,5 +230,18 @@ impl ByteKind for OfWord {
 
     fn has(byte: u8) -> bool {
         byte != b' ' && byte != b'\t' && byte != b','
+    }
+}
+
+// Neither a space nor a tab nor a comma nor a `-`.
+struct OfName;
+
+impl ByteKind for OfName {
+    ghost use Rattle.cidr_join.specs.Entries.{is_name};
+
+    ghost is_one = { is_name };
+
+    fn has(byte: u8) -> bool {
+        byte != b' ' && byte != b'\t' && byte != b',' && byte != b'-'
     }
 }

@@ -24,6 +24,8 @@ pub struct ListRules {
     pub last_wins: bool,
     /// A line may have no value.
     pub bare: bool,
+    /// A line `FIRST LAST` is a range, and is not refused.
+    pub ranges: bool,
     /// A refused line is reported and left out, and is not a fault.
     pub skips: bool,
 }
@@ -165,7 +167,7 @@ fn take_line<'a>(
     ensures err { IfErr result (LineFails rules networks.old line.now) }
     ensures kept { IfErr result (Keeps networks.old networks.new) }
 {
-    match read_route(line, rules.bare) {
+    match read_route(line, rules.bare, rules.ranges) {
         Ok(None) => Ok(()),
         Ok(Some(said)) => set_entry(networks, said.entry, said.value, rules.last_wins),
         Err(cause) => Err(RouteFault::Refused(cause)),

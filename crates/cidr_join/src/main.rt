@@ -14,6 +14,7 @@ mod log;
 mod logs;
 mod longest;
 mod missing;
+mod pair;
 mod printing;
 mod reading;
 mod routes;

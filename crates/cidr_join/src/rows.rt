@@ -31,8 +31,11 @@ pub(crate) const SKIPS_BAD: usize = 17;
 /// The row of `--networks`.
 pub(crate) const NETWORKS: usize = 18;
 
+/// The row of `--ranges`.
+pub(crate) const RANGES: usize = 19;
+
 // The options.
-const ROWS: [Row; 20] = log_rows![
+const ROWS: [Row; 21] = log_rows![
     long!("--last", Flag, false, ""),
     long!("--last-wins", Flag, false, ""),
     long!("--network", Flag, false, ""),
@@ -47,37 +50,43 @@ const ROWS: [Row; 20] = log_rows![
     long!("--zero", Flag, false, ""),
     long!("--skip-bad", Flag, false, ""),
     long!("--networks", Flag, false, ""),
+    long!("--ranges", Flag, false, ""),
 ];
 
 // The options that may not be given together.
-const PAIRS: [Pair; 11] = log_pairs![
+const PAIRS: [Pair; 12] = log_pairs![
     [],
     [
         pair!(TALLY, LAST, "--last does not go with --tally"),
         pair!(
             GROUP,
             LIST,
-            "--group goes with none of -f, --network, --last-wins, --skip-bad and --zero"
+            "--group goes with none of -f, --network, --last-wins, --ranges, --skip-bad and --zero"
         ),
         pair!(
             GROUP,
             NETWORK,
-            "--group goes with none of -f, --network, --last-wins, --skip-bad and --zero"
+            "--group goes with none of -f, --network, --last-wins, --ranges, --skip-bad and --zero"
         ),
         pair!(
             GROUP,
             LAST_WINS,
-            "--group goes with none of -f, --network, --last-wins, --skip-bad and --zero"
+            "--group goes with none of -f, --network, --last-wins, --ranges, --skip-bad and --zero"
         ),
         pair!(
             GROUP,
             ZERO,
-            "--group goes with none of -f, --network, --last-wins, --skip-bad and --zero"
+            "--group goes with none of -f, --network, --last-wins, --ranges, --skip-bad and --zero"
+        ),
+        pair!(
+            GROUP,
+            RANGES,
+            "--group goes with none of -f, --network, --last-wins, --ranges, --skip-bad and --zero"
         ),
         pair!(
             GROUP,
             SKIPS_BAD,
-            "--group goes with none of -f, --network, --last-wins, --skip-bad and --zero"
+            "--group goes with none of -f, --network, --last-wins, --ranges, --skip-bad and --zero"
         ),
     ],
 ];

@@ -21,6 +21,8 @@ pub struct ListRules {
     pub last_wins: bool,
     /// A line may have no value.
     pub bare: bool,
+    /// A line `FIRST LAST` is a range, and is not refused.
+    pub ranges: bool,
     /// A refused line is reported and left out, and is not a fault.
     pub skips: bool,
 }
@@ -138,7 +140,7 @@ fn take_line<'a>(
     line: &'a [u8],
     rules: ListRules,
 ) -> Result<(), RouteFault> {
-    match read_route(line, rules.bare) {
+    match read_route(line, rules.bare, rules.ranges) {
         Ok(None) => Ok(()),
         Ok(Some(said)) => set_entry(networks, said.entry, said.value, rules.last_wins),
         Err(cause) => Err(RouteFault::Refused(cause)),

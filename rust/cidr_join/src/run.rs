@@ -12,7 +12,9 @@ use crate::list::ListRules;
 use crate::logs::join_logs;
 use crate::reading::{ReadList, read_lists, take_lists};
 use crate::routes::Routes;
-use crate::rows::{BAD, GROUP, LAST, LAST_WINS, NETWORK, NETWORKS, SKIPS_BAD, TALLY, ZERO, table};
+use crate::rows::{
+    BAD, GROUP, LAST, LAST_WINS, NETWORK, NETWORKS, RANGES, SKIPS_BAD, TALLY, ZERO, table,
+};
 use crate::tally_logs::tally_logs;
 use cidr_programs::lines::output::Output;
 use cidr_programs::lists::OpenLists;
@@ -127,6 +129,7 @@ fn rules_of(items: &[Item<'_>]) -> ListRules {
     ListRules {
         last_wins: is_given(items, LAST_WINS),
         bare: is_given(items, NETWORK),
+        ranges: is_given(items, RANGES),
         skips: is_given(items, SKIPS_BAD),
     }
 }
