@@ -11,9 +11,9 @@ import cidr_merge_finds
 LINES = ["--line-prefix x", "--line-suffix x"]
 READ = ["-e 10.0.0.1", "--skip-bad", "--json", "--strict"]
 FORMS = [f"--format {form}" for form in "plain range netmask wildcard csv nft ipset json addresses".split()]
-PRINTED = [*READ, "--ranges", "--count", *FORMS, "--set b", "--table b", "--maxelem 9", *LINES]
+PRINTED = [*READ, "--ranges", "--count", *FORMS, "--set b", "--table b", "--maxelem 9", *LINES, "--allow-empty", "--at-least 9"]
 COUNTED = ["--most 9", "--ipv4 9", "--ipv6 9", "--max-others any"]
-OPTIONS = [*PRINTED, *COUNTED, "--prefix 24", "--from halves"]
+OPTIONS = [*PRINTED, *COUNTED, "--max-change 9%", "--prefix 24", "--from halves"]
 
 # The operations with one FILE or more, and the options that each takes.
 TASKS = {
@@ -21,8 +21,8 @@ TASKS = {
     "list f": PRINTED,
     "common f -- f": PRINTED,
     "minus f -- f": PRINTED,
-    "differ f -- f": PRINTED,
-    "split f": [*READ, *LINES, "--prefix 24"],
+    "differ f -- f": [*PRINTED, "--max-change 9%"],
+    "split f": [*READ, *LINES, "--at-least 9", "--prefix 24"],
     "reduce f": [*PRINTED, *COUNTED],
     "check f": ["-e 10.0.0.1", "--strict"],
     "overlaps f": ["-e 10.0.0.1"],
@@ -44,6 +44,7 @@ def are_right(task, options):
         "--strict" not in words or "--json" in words or name == "check",
         "--prefix" in words or name != "split",
         {"--most", "--ipv4", "--ipv6"} & set(words) or name != "reduce",
+        not {"--allow-empty", "--at-least"} <= set(words),
         "--most" not in words or not {"--ipv4", "--ipv6"} & set(words),
         name != "differ" or not any(option in FORMS for option in options) or form in ("plain", "range"),
         "--set" not in words or form in ("nft", "ipset"),

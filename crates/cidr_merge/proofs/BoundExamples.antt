@@ -1,9 +1,8 @@
 -- Bounds on the number of other addresses, at values at which a wrong definition would show. Each of these computes.
 use Rattle.cidr_merge.proofs.Words.{◌≡◌, ◌^◌, ◌-◌, ◌∷◌, [], true, false, refl, map, codes, Some, None, allows, bound_in, lacks_number, Any, Number, Percent, Sets, ReduceRequest}
-use Rattle.cidr_merge.proofs.Examples.{none, one, one6, ten}
+use Rattle.cidr_merge.proofs.Examples.{none, one, one6, plain_merge, ten}
 use Rattle.cidr_merge.specs.declared.command_line.Form.TheVariants.{Blocks}
 use Rattle.cidr_merge.specs.declared.command_line.Operation.TheVariants.{Union}
-use Rattle.cidr_merge.specs.declared.shapes.Shape.TheVariants as shapes
 
 pub bounds_named : map bound_in (codes "any" ∷ codes "0" ∷ codes "0512" ∷ codes "0%" ∷ codes "250%" ∷ [])
     ≡ Some Any ∷ Some (Number 0) ∷ Some (Number 512) ∷ Some (Percent 0) ∷ Some (Percent 250) ∷ []
@@ -28,6 +27,12 @@ pub percents_met : (map (λ others. allows (Percent 100) 512 others) (511 ∷ 51
     × (map (λ others. allows (Percent 0) 48 others) (0 ∷ 1 ∷ []) ≡ true ∷ false ∷ [])
 percents_met = (refl, refl, refl)
 
+-- of no address, and of all of IPv6, also in the place of half of it
+pub changes_met : (map (allows (Percent 900) 0) (0 ∷ 1 ∷ []) ≡ true ∷ false ∷ [])
+    × (map (λ percent. allows (Percent percent) (2 ^ 128) (2 ^ 128)) (99 ∷ 100 ∷ []) ≡ false ∷ true ∷ [])
+    × (map (λ percent. allows (Percent percent) (2 ^ 127) (2 ^ 128)) (199 ∷ 200 ∷ []) ≡ false ∷ true ∷ [])
+changes_met = (refl, refl, refl)
+
 -- at the ends: no addresses, all of IPv6, and the first and the last of it
 pub ends_met : (allows (Percent 100) 0 0 ≡ true) × (allows (Percent 0) (2 ^ 128) 0 ≡ true)
     × (allows Any 2 (2 ^ 128 - 2) ≡ true) × (allows (Percent 100) 2 (2 ^ 128 - 2) ≡ false)
@@ -46,7 +51,7 @@ of_one = record {
   v6 = 5;
   is_of_one = true;
   bound = Any;
-  merge = record { operation = Union; form = Blocks; skips_bad = false; shape = shapes.Lines; middle = 1 };
+  merge = plain_merge Union Blocks;
 }
 
 abbrev of_ipv4 : ReduceRequest

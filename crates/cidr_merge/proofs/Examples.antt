@@ -1,9 +1,23 @@
 -- Values at which a wrong definition would show. Each of these computes.
-use Rattle.cidr_merge.proofs.Words.{◌≡◌, ◌++◌, ℕ, List, ◌∷◌, [], true, false, refl, map, filter, codes, String, Some, None, is_some, digits, Network, v4_family, InUnion, flat_map, range_with_len, pair_fault, free_items, Row, rows_of, pairs_of, is, lists_of, text_in, IsLeft, IsLeftOfSecond, AreBoth, merged, merged_ranges, block_line, range_line, are_wrong_files, are_wrong_sides, files_among, takes, form_called, form_of, most_in, shape_of, prefix_in, entries, pairs, Names, is_set_name, usual_names, before_dashes, behind_dashes, task_called, answer_status, Union, Common, Minus, Differ, Blocks, Ranges, Counts, Exported, Csv, Sets, First, Second}
+use Rattle.cidr_merge.proofs.Words.{◌≡◌, ◌++◌, ℕ, List, ◌∷◌, [], true, false, refl, map, filter, codes, String, Some, None, is_some, digits, Network, v4_family, InUnion, flat_map, range_with_len, pair_fault, free_items, Row, rows_of, pairs_of, is, lists_of, text_in, IsLeft, IsLeftOfSecond, AreBoth, merged, merged_ranges, block_line, range_line, are_wrong_files, are_wrong_sides, files_among, takes, form_called, form_of, most_in, shape_of, prefix_in, entries, pairs, Names, is_set_name, usual_names, before_dashes, behind_dashes, task_called, answer_status, Union, Common, Minus, Differ, Blocks, Ranges, Counts, Exported, Csv, Sets, First, Second, Any, Operation, Request}
 use Rattle.options.specs.declared.items.Item.TheVariants as says
+use Rattle.cidr_merge.specs.declared.command_line.Form.{Form}
 use Rattle.cidr_merge.specs.declared.exports.Export.TheVariants as exports
 use Rattle.cidr_merge.specs.declared.shapes.Shape.TheVariants as shapes
 use Rattle.cidr_merge.specs.declared.tasks.Task.TheVariants as tasks
+
+-- a merge of one list on the first side, with no option but that of its form
+abbrev pub plain_merge : Operation → Form → Request
+plain_merge operation form = record {
+  operation = operation;
+  form = form;
+  skips_bad = false;
+  shape = shapes.Lines;
+  allows_empty = false;
+  at_least = 0;
+  max_change = Any;
+  middle = 1;
+}
 
 -- ---- what is printed
 
@@ -170,12 +184,13 @@ pub no_files : (files_among tasks.Find 2 (codes "-" ∷ [] ∷ codes "-" ∷ [])
 no_files = (refl, refl)
 
 -- the options that each task takes, by their rows: `--prefix` is row 10, `--from` 11, `-e` 12, `--most` 13, `--maxelem`
--- 14, `--ipv4` 15, `--ipv6` 16, `--max-others` 17; rows 18 to 20 are `--help`, `--version` and `--quiet`
-pub options_of_tasks : map (λ task. filter (takes task) (range_with_len 0 21)) (tasks.Merge Union ∷ tasks.Merge Differ
+-- 14, `--ipv4` 15, `--ipv6` 16, `--max-others` 17, `--allow-empty` 18, `--at-least` 19, `--max-change` 20; rows 21 to 23
+-- are `--help`, `--version` and `--quiet`
+pub options_of_tasks : map (λ task. filter (takes task) (range_with_len 0 24)) (tasks.Merge Union ∷ tasks.Merge Differ
     ∷ tasks.List ∷ tasks.Split ∷ tasks.Reduce ∷ tasks.Check ∷ tasks.Overlaps ∷ tasks.Find ∷ [])
-    ≡ (range_with_len 0 10 ++ 12 ∷ 14 ∷ []) ∷ (range_with_len 0 10 ++ 12 ∷ 14 ∷ [])
-    ∷ (range_with_len 0 10 ++ 12 ∷ 14 ∷ [])
-    ∷ (3 ∷ 4 ∷ 5 ∷ 8 ∷ 9 ∷ 10 ∷ 12 ∷ []) ∷ (range_with_len 0 10 ++ range_with_len 12 6)
+    ≡ (range_with_len 0 10 ++ 12 ∷ 14 ∷ 18 ∷ 19 ∷ []) ∷ (range_with_len 0 10 ++ 12 ∷ 14 ∷ 18 ∷ 19 ∷ 20 ∷ [])
+    ∷ (range_with_len 0 10 ++ 12 ∷ 14 ∷ 18 ∷ 19 ∷ [])
+    ∷ (3 ∷ 4 ∷ 5 ∷ 8 ∷ 9 ∷ 10 ∷ 12 ∷ 19 ∷ []) ∷ (range_with_len 0 10 ++ range_with_len 12 8)
     ∷ (5 ∷ 12 ∷ []) ∷ (12 ∷ []) ∷ (11 ∷ 12 ∷ []) ∷ []
 options_of_tasks = refl
 

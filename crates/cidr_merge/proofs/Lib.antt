@@ -5,6 +5,7 @@ pub mod Examples
 pub mod ExportExamples
 pub mod ExportTexts
 pub mod Found
+pub mod HeldBackExamples
 pub mod Inspected
 pub mod KeptEntries
 pub mod Known

@@ -1,5 +1,5 @@
 -- The blocks of two sides.
-use Rattle.cidr_merge.proofs.Words.{◌≡◌, ◌<◌, ◌↔◌, ℕ, List, [], ◌∷◌, sym, ap, arith, length, Option, None, Some, MatchOption, Network, IsLeastList, least_of_none, InUnion, contains_nil, IsRangeList, InFirstAlone, IsLeftOfSecond, left_of_second, with_head, Operation}
+use Rattle.cidr_merge.proofs.Words.{◌≡◌, ◌≢◌, ◌<◌, ◌↔◌, ℕ, List, [], ◌∷◌, refl, sym, ap, arith, length, Option, None, Some, MatchOption, Network, IsLeastList, least_of_none, InUnion, contains_nil, IsRangeList, InFirstAlone, IsLeftOfSecond, left_of_second, with_head, Operation}
 use Rattle.cidr_merge.specs.declared.command_line.Operation.TheVariants as operations
 
 pub least_of_second : (operation : Operation) (w : ℕ) (first second blocks : List Network)
@@ -9,6 +9,14 @@ least_of_second operations.Union w first second blocks h = least_of_none w (λ x
 least_of_second operations.Common w first second blocks h = least_of_none w (λ x. ⊥) (λ x n. n)
 least_of_second operations.Minus w first second blocks h = least_of_none w (λ x. ⊥) (λ x n. n)
 least_of_second operations.Differ w first second blocks h = h
+
+-- the other operations print nothing that only the second side has
+pub no_second : {X : Type 0} (operation : Operation) → operation ≢ operations.Differ → (parts : List X)
+    → left_of_second operation parts ≡ []
+no_second operations.Union other parts = refl
+no_second operations.Common other parts = refl
+no_second operations.Minus other parts = refl
+no_second operations.Differ other parts = absurd (other refl)
 
 pub headed : {N X : Type 0} (pair : N → X) (first : Option N) (old new : List X)
     → MatchOption first ((old ≡ []) × (new ≡ [])) (λ block. old ≡ pair block ∷ new)

@@ -1,5 +1,5 @@
 -- The numbers of blocks and addresses.
-use Rattle.cidr_merge.proofs.Words.{◌≡◌, ◌≢◌, ◌↔◌, ◌<◌, ◌≤◌, ◌+◌, ◌-◌, ◌^◌, ◌++◌, ◌∷◌, ℕ, List, ◌∙◌, refl, sym, ap, subst, arith, length, min, decimal, ⊎_elim, min-eq_left, min-eq_right, pow_mono, cases_lt, Network, block_size, InUnion, IsLeastList, least_of_same, SetHasFewerBlocks, HasCount, total, InFirstAlone, IsLeft, IsCount, AddUp, Operation}
+use Rattle.cidr_merge.proofs.Words.{◌≡◌, ◌≢◌, ◌↔◌, ◌<◌, ◌≤◌, ◌+◌, ◌-◌, ◌^◌, ◌++◌, ◌∷◌, ℕ, List, ◌∙◌, refl, sym, ap, subst, arith, length, min, decimal, ⊎_elim, min-eq_left, min-eq_right, pow_mono, cases_lt, le-ltb, lt-ltb, nat_lt, Network, block_size, InUnion, IsLeastList, least_of_same, SetHasFewerBlocks, HasCount, total, InFirstAlone, IsLeft, IsCount, AddUp, Operation}
 use Rattle.std.proofs.Common.{codes}
 use Rattle.cidr_merge.specs.declared.command_line.Operation.TheVariants as operations
 
@@ -118,3 +118,22 @@ count_is w counts set blocks count addresses h sum some bits e f g =
       g ∙ ap (λ n. decimal n ++ codes " " ++ decimal addresses) all
           ∙ ap (λ n. decimal (length blocks) ++ codes " " ++ decimal n) every,
     )
+
+-- so many addresses are in the set
+pub counted_are : (w : ℕ) (set : ℕ → Type 0) (blocks : List Network) (addresses : ℕ) → AddUp w set blocks → w ≤ 128
+    → addresses ≡ min (total w blocks) (2 ^ 128) → HasCount set addresses
+counted_are w set blocks addresses sum bits f =
+    let small : 2 ^ w ≤ 2 ^ 128 = pow_mono bits in
+    let within = sum.within in
+    let every : addresses ≡ total w blocks = f ∙ min-eq_left (omega (arith, small, within)) in
+    subst (λ (n : ℕ). HasCount set n) (sym every) sum.count
+
+-- networks are lacking if there are fewer than wanted
+pub lacks_some : (least networks lacking : ℕ) → lacking ≡ least - networks → nat_lt 0 lacking ≡ nat_lt networks least
+lacks_some least networks lacking e =
+    ⊎_elim
+    (λ (l : networks < least).
+    lt-ltb 0 lacking (omega (arith, e, l)) ∙ sym (lt-ltb networks least l))
+    (λ (l : least ≤ networks).
+    le-ltb 0 lacking (omega (arith, e, l)) ∙ sym (le-ltb networks least l))
+    (cases_lt networks least)

@@ -1,6 +1,7 @@
 -- Words at which a wrong definition of what they ask for would show. Each of these computes.
-use Rattle.cidr_merge.proofs.Words.{◌≡◌, ℕ, List, ◌∷◌, ◌++◌, [], refl, codes, String, Some, None, string_bytes, Table, rows_of, pairs_of, command_of, entries, pairs, spelled_out, Command, Blocks, Ranges, Union, Minus, Percent}
+use Rattle.cidr_merge.proofs.Words.{◌≡◌, ℕ, List, ◌∷◌, ◌++◌, [], refl, codes, String, Some, None, string_bytes, Table, rows_of, pairs_of, command_of, entries, pairs, spelled_out, Command, Blocks, Ranges, Union, Minus, Differ, Percent}
 use Rattle.std.specs.Prelude.{false, map, true}
+use Rattle.cidr_merge.proofs.Examples.{plain_merge}
 use Rattle.cidr_merge.specs.declared.command_line.Command.TheVariants as commands
 use Rattle.cidr_merge.specs.declared.command_line.Inspection.TheVariants as inspections
 use Rattle.cidr_merge.specs.declared.shapes.Shape.TheVariants as shapes
@@ -39,6 +40,9 @@ pub wrong_options : {Z : Type 0} → Wrong Z (codes "union" ∷ codes "a" ∷ co
     × Wrong Z (codes "reduce" ∷ codes "a" ∷ codes "--max-others=1" ∷ [])
     × Wrong Z (codes "reduce" ∷ codes "a" ∷ codes "--most=1" ∷ codes "--ipv6=1" ∷ [])
     × Wrong Z (codes "reduce" ∷ codes "a" ∷ codes "--ipv4=1" ∷ codes "--max-others=%" ∷ [])
+    × Wrong Z (codes "union" ∷ codes "a" ∷ codes "--at-least=0" ∷ [])
+    × Wrong Z (codes "union" ∷ codes "a" ∷ codes "--max-change=1" ∷ [])
+    × Wrong Z (codes "union" ∷ codes "a" ∷ codes "--at-least=1" ∷ codes "--allow-empty" ∷ [])
 wrong_options = (
   (λ _ o _ a _ b. simp (o, a, b)),
   (λ _ o _ a _ b _ c _ d. simp (o, a, b, c, d)),
@@ -51,6 +55,9 @@ wrong_options = (
   (λ _ o _ a _ b. simp (o, a, b)),
   (λ _ o _ a _ b. simp (o, a, b)),
   (λ _ o _ a _ b _ c. simp (o, a, b, c)),
+  (λ _ o _ a _ b _ c. simp (o, a, b, c)),
+  (λ _ o _ a _ b. simp (o, a, b)),
+  (λ _ o _ a _ b. simp (o, a, b)),
   (λ _ o _ a _ b _ c. simp (o, a, b, c)),
 )
 
@@ -81,18 +88,29 @@ Ask Z words command names = BehindAsked Z [] words command names
 -- an option after the lists of the second side, one before the `--`, and a value in the option's word or after it
 pub options_anywhere : {Z : Type 0}
     → Ask Z (codes "minus" ∷ codes "a" ∷ codes "--" ∷ codes "b" ∷ codes "--ranges" ∷ [])
-    (commands.Merge (record { operation = Minus; form = Ranges; skips_bad = false; shape = shapes.Lines; middle = 1 }))
+    (commands.Merge (plain_merge Minus Ranges))
+    (codes "a" ∷ codes "b" ∷ [])
+    × Ask Z (codes "differ" ∷ codes "a" ∷ codes "--max-change=20%" ∷ codes "--" ∷ codes "b" ∷ codes "--at-least=7" ∷ [])
+    (commands.Merge (record {
+      operation = Differ;
+      form = Blocks;
+      skips_bad = false;
+      shape = shapes.Lines;
+      allows_empty = false;
+      at_least = 7;
+      max_change = Percent 20;
+      middle = 1;
+    }))
     (codes "a" ∷ codes "b" ∷ [])
     × Ask Z (codes "split" ∷ codes "a" ∷ codes "--prefix=+9" ∷ codes "--skip-bad" ∷ [])
-    (commands.Split (record { length = 9; skips_bad = true; shape = shapes.Lines })) (codes "a" ∷ [])
+    (commands.Split (record { length = 9; skips_bad = true; shape = shapes.Lines; at_least = 0 })) (codes "a" ∷ [])
     × Ask Z (codes "reduce" ∷ codes "a" ∷ codes "--most=18446744073709551616" ∷ codes "--ranges" ∷ [])
     (commands.Reduce (record {
       v4 = 18446744073709551615;
       v6 = 18446744073709551615;
       is_of_one = true;
       bound = Percent 100;
-      merge =
-          record { operation = Union; form = Ranges; skips_bad = false; shape = shapes.Lines; middle = 1 };
+      merge = plain_merge Union Ranges;
     }))
     (codes "a" ∷ [])
     × Ask Z (codes "reduce" ∷ codes "a" ∷ codes "--ipv6=7" ∷ codes "--max-others=10%" ∷ [])
@@ -101,8 +119,7 @@ pub options_anywhere : {Z : Type 0}
       v6 = 7;
       is_of_one = false;
       bound = Percent 10;
-      merge =
-          record { operation = Union; form = Blocks; skips_bad = false; shape = shapes.Lines; middle = 1 };
+      merge = plain_merge Union Blocks;
     }))
     (codes "a" ∷ [])
     × Ask Z (codes "check" ∷ codes "a" ∷ codes "--strict" ∷ []) (commands.Inspect inspections.Strict) (codes "a" ∷ [])
@@ -112,6 +129,7 @@ pub options_anywhere : {Z : Type 0}
     (codes "./-e x" ∷ codes "a" ∷ [])
 options_anywhere = (
   (λ _ o _ a _ b _ c _ d. simp (o, a, b, c, d)),
+  (λ _ o _ a _ b _ c _ d _ e. simp (o, a, b, c, d, e)),
   (λ _ o _ a _ b _ c. simp (o, a, b, c)),
   (λ _ o _ a _ b _ c. simp (o, a, b, c)),
   (λ _ o _ a _ b _ c. simp (o, a, b, c)),

@@ -10,6 +10,7 @@ pub use Rattle.cidr_merge.specs.FindWords.{AreAddresses, HasNoAddress, with_addr
 pub use Rattle.cidr_merge.specs.Findings.{IsFound, findings_by, has_host_bits, host_findings, line_findings, lists_findings, place_text}
 pub use Rattle.cidr_merge.specs.Finds.{has, has_refused, has_text, is_refused, line_matches, lists_matches, match_lines, matches_by}
 pub use Rattle.cidr_merge.specs.Forms.{form_called, form_of, most_in, prefix_in, shape_of}
+pub use Rattle.cidr_merge.specs.HeldBack.{HasNetworks, IsChange, IsHeldBack, least_number}
 pub use Rattle.cidr_merge.specs.InspectionRuns.{EndsOrdered, findings_status}
 pub use Rattle.cidr_merge.specs.NamedLists.{lists_of, text_in}
 pub use Rattle.cidr_merge.specs.NumberedLines.{NumberedLine, address_or_prefix, as_said, entry_or_none, is_range, network_entry, network_fault, numbered_lines, plain_entry, range_between, reading_of, said_by, some_entry, text_entry, told_entry}
@@ -34,6 +35,7 @@ pub use Rattle.cidr_merge.specs.Shapes.{ReadsOne, Source, StopsBy, StopsOne, sou
 pub use Rattle.cidr_merge.specs.Sides.{before_dashes, behind_dashes}
 pub use Rattle.cidr_merge.specs.SoughtLines.{has_other, line_is_other, line_sought, lists_sought}
 pub use Rattle.cidr_merge.specs.Spelling.{spelled_out}
+pub use Rattle.cidr_merge.specs.Splits.{lacks_networks}
 pub use Rattle.cidr_merge.specs.Stopping.{Stops, StopsInSides}
 pub use Rattle.cidr_merge.specs.Tasks.{task_called}
 pub use Rattle.cidr_merge.specs.Texts.{AreTexts, FileStops, IsText, StopsAs, TextStops, TextsStop}
@@ -122,7 +124,7 @@ pub use Rattle.std.proofs.Math.Dec.{eqb-suc-zero}
 pub use Rattle.std.proofs.Math.Nat.{div-mul-le_self, le-div_iff_mul-le, lt-div-mul-add, min-eq_left, min-eq_right, zero-div}
 pub use Rattle.std.proofs.Math.Pow.{pow_mono}
 pub use Rattle.std.proofs.Math.Seq.{drop-length, drop-nil, take-append_seam, take-length}
-pub use Rattle.std.proofs.lemmas.Bool.{and_from, cases_lt, eqb-true, le-leb, leb-true, lt-ltb, ltb-true, ne_eqb, true≢false}
+pub use Rattle.std.proofs.lemmas.Bool.{and_from, cases_lt, eqb-true, le-leb, le-ltb, leb-true, lt-ltb, ltb-true, ne_eqb, true≢false}
 pub use Rattle.std.proofs.lemmas.Grind.{flat_map-append}
 pub use Rattle.std.proofs.lemmas.List.{at_drop_more, drop-drop, drop-map, drop-set-lt, get_or-drop, get_or-map, get_or-take, get_or_default, length-append, length-drop, length-map, length-set, map-append, map_push, take-append-drop, take-map, take-set, take-set-le, take_more, take_more_set, take_rest}
 pub use Rattle.std.proofs.lemmas.List.Elements.{All-drop, All-map, All-take, filter-append}

@@ -1,4 +1,5 @@
--- Bounds on the number of other addresses that a family may have.
+-- Bounds on the number of addresses of a family: of others after a `reduce`, or of those that only one side of a `differ`
+-- has.
 use Rattle.std.specs.Prelude.{ℕ, ◌-◌, ◌*◌, ◌^◌, ◌&&◌, min, Bool, true, List, Option, None, Some, length, take}
 use Rattle.std.specs.Prelude.{drop, nat_le, if◌then◌else◌, codes, bytes_eq}
 use Rattle.std.specs.Option.{unwrap_or}
@@ -31,3 +32,7 @@ bound_in text =
 -- the bound of a `reduce`: as many as there are addresses, if no option gives one
 abbrev pub bound_of : List Item → Bound
 bound_of items = unwrap_or (bound_in (value_of items own.max_others)) (Percent 100)
+
+-- the bound of a `differ`: any number of addresses, if no option gives one
+abbrev pub change_of : List Item → Bound
+change_of items = unwrap_or (bound_in (value_of items own.max_change)) Any

@@ -10,10 +10,10 @@ use Rattle.options.specs.declared.items.Item.{Item}
 use Rattle.options.specs.declared.items.Mode.TheVariants as modes
 use Rattle.options.specs.declared.table.Row.{Row}
 use Rattle.options.specs.declared.table.Table.{Table}
-use Rattle.cidr_merge.specs.Bounds.{bound_of}
+use Rattle.cidr_merge.specs.Bounds.{bound_of, change_of}
 use Rattle.cidr_merge.specs.NamedLists.{lists_of}
 use Rattle.cidr_merge.specs.RightWords.{are_wrong, from_of}
-use Rattle.cidr_merge.specs.Forms.{form_of, shape_of, length_of, most_of}
+use Rattle.cidr_merge.specs.Forms.{form_of, shape_of, length_of, most_of, at_least_of}
 use Rattle.cidr_merge.specs.Options as own
 use Rattle.cidr_merge.specs.SetNames.{Names, names_of}
 use Rattle.cidr_merge.specs.Sides.{before_dashes, behind_dashes}
@@ -40,6 +40,9 @@ request_of operation usual items middle = record {
   form = form_of usual items;
   skips_bad = is_given items own.skip_bad;
   shape = shape_of items;
+  allows_empty = is_given items own.allow_empty;
+  at_least = at_least_of items;
+  max_change = change_of items;
   middle = middle;
 }
 
@@ -66,6 +69,7 @@ asked_for tasks.Split items middle = commands.Split
       length = length_of items;
       skips_bad = is_given items own.skip_bad;
       shape = shape_of items;
+      at_least = at_least_of items;
     })
 asked_for tasks.Reduce items middle = commands.Reduce (reduction_of items middle)
 asked_for tasks.Check items middle = commands.Inspect (inspection_of (is_given items own.strict))

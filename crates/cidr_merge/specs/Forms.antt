@@ -1,5 +1,5 @@
--- The meaning of the options for the output form, the input format, the prefix length of a `split` and the greatest
--- number of networks of a `reduce`.
+-- The meaning of the options for the output form, the input format, the prefix length of a `split`, the least number of
+-- networks of a result and the greatest of a `reduce`.
 use Rattle.std.specs.Prelude.{ℕ, zero, suc, ◌==◌, List, [], ◌∷◌, Option, None, Some, if◌then◌else◌, codes, bytes_eq}
 use Rattle.std.specs.Option.{unwrap_or}
 use Rattle.options.specs.Given.{is_given, value_of}
@@ -58,6 +58,10 @@ not_zero (Some (suc less)) = Some (suc less)
 
 abbrev pub most_in : List ℕ → Option ℕ
 most_in text = not_zero (number_in text)
+
+-- the least number of networks of a result that is printed: 0 if no option gives one
+abbrev pub at_least_of : List Item → ℕ
+at_least_of items = unwrap_or (most_in (value_of items own.at_least)) 0
 
 -- the greatest number of networks of a family, whose option has this row, after a `reduce`: that of `--most` if it has
 -- none of its own, and 0 if no option gives one

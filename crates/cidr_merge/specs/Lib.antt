@@ -8,6 +8,7 @@ pub mod FindRuns
 pub mod FindWords
 pub mod Findings
 pub mod Finds
+pub mod HeldBack
 pub mod InspectionRuns
 pub mod Forms
 pub mod NamedLists

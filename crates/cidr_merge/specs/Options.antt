@@ -3,6 +3,7 @@ use Rattle.std.specs.Prelude.{ℕ, true, List, [], ◌∷◌, codes}
 use Rattle.options.specs.Table.{Entry, IsTable, long_flag, alone, long, valued}
 use Rattle.options.specs.declared.table.Kind.TheVariants as kinds
 use Rattle.options.specs.declared.table.Table.{Table}
+use Rattle.cidr_merge.specs.declared.command_line.Operation.TheVariants as operations
 use Rattle.cidr_merge.specs.declared.tasks.Task.{Task}
 use Rattle.cidr_merge.specs.declared.tasks.Task.TheVariants as tasks
 
@@ -61,6 +62,15 @@ ipv6 = 16
 abbrev pub max_others : ℕ
 max_others = 17
 
+abbrev pub allow_empty : ℕ
+allow_empty = 18
+
+abbrev pub at_least : ℕ
+at_least = 19
+
+abbrev pub max_change : ℕ
+max_change = 20
+
 -- the options, in the order of their rows
 abbrev pub entries : List Entry
 entries =
@@ -71,15 +81,18 @@ entries =
     ∷ long (codes "--prefix") kinds.Text true ∷ long (codes "--from") kinds.File true ∷ valued (codes "e") kinds.Text
     ∷ long (codes "--most") kinds.Number true ∷ long (codes "--maxelem") kinds.Number true
     ∷ long (codes "--ipv4") kinds.Number true ∷ long (codes "--ipv6") kinds.Number true
-    ∷ long (codes "--max-others") kinds.Text true ∷ alone (codes "--help") ∷ alone (codes "--version") ∷ alone (codes "--quiet") ∷ []
+    ∷ long (codes "--max-others") kinds.Text true ∷ long_flag (codes "--allow-empty")
+    ∷ long (codes "--at-least") kinds.Number true ∷ long (codes "--max-change") kinds.Text true
+    ∷ alone (codes "--help") ∷ alone (codes "--version") ∷ alone (codes "--quiet") ∷ []
 
--- the pairs of options that exclude each other: two output forms, a number for one family and one for each, or an option
--- with a value given twice
+-- the pairs of options that exclude each other: two output forms, a number for one family and one for each, a least
+-- number of networks and none, or an option with a value given twice
 abbrev pub pairs : List (ℕ × ℕ)
 pairs =
     (ranges, count) ∷ (format, format) ∷ (format, ranges) ∷ (format, count) ∷ (prefix, prefix) ∷ (set, set)
     ∷ (table, table) ∷ (before, before) ∷ (after, after) ∷ (from, from) ∷ (most, most) ∷ (maxelem, maxelem)
-    ∷ (most, ipv4) ∷ (most, ipv6) ∷ (ipv4, ipv4) ∷ (ipv6, ipv6) ∷ (max_others, max_others) ∷ []
+    ∷ (most, ipv4) ∷ (most, ipv6) ∷ (ipv4, ipv4) ∷ (ipv6, ipv6) ∷ (max_others, max_others)
+    ∷ (at_least, at_least) ∷ (max_change, max_change) ∷ (allow_empty, at_least) ∷ []
 
 -- the table has these options and pairs
 abbrev pub IsOptions : Table → Type 0
@@ -87,14 +100,19 @@ IsOptions options = IsTable options entries pairs []
 
 -- the options that a task takes, by the indices of their rows
 abbrev pub taken : Task → List ℕ
+taken (tasks.Merge operations.Differ) =
+    text ∷ ranges ∷ count ∷ format ∷ set ∷ table ∷ maxelem ∷ before ∷ after ∷ skip_bad ∷ json ∷ strict ∷ allow_empty
+    ∷ at_least ∷ max_change ∷ []
 taken (tasks.Merge operation) =
-    text ∷ ranges ∷ count ∷ format ∷ set ∷ table ∷ maxelem ∷ before ∷ after ∷ skip_bad ∷ json ∷ strict ∷ []
+    text ∷ ranges ∷ count ∷ format ∷ set ∷ table ∷ maxelem ∷ before ∷ after ∷ skip_bad ∷ json ∷ strict ∷ allow_empty
+    ∷ at_least ∷ []
 taken tasks.List =
-    text ∷ ranges ∷ count ∷ format ∷ set ∷ table ∷ maxelem ∷ before ∷ after ∷ skip_bad ∷ json ∷ strict ∷ []
-taken tasks.Split = text ∷ prefix ∷ before ∷ after ∷ skip_bad ∷ json ∷ strict ∷ []
+    text ∷ ranges ∷ count ∷ format ∷ set ∷ table ∷ maxelem ∷ before ∷ after ∷ skip_bad ∷ json ∷ strict ∷ allow_empty
+    ∷ at_least ∷ []
+taken tasks.Split = text ∷ prefix ∷ before ∷ after ∷ skip_bad ∷ json ∷ strict ∷ at_least ∷ []
 taken tasks.Reduce =
-    text ∷ ranges ∷ count ∷ format ∷ set ∷ table ∷ maxelem ∷ before ∷ after ∷ skip_bad ∷ json ∷ strict ∷ most
-    ∷ ipv4 ∷ ipv6 ∷ max_others ∷ []
+    text ∷ ranges ∷ count ∷ format ∷ set ∷ table ∷ maxelem ∷ before ∷ after ∷ skip_bad ∷ json ∷ strict ∷ allow_empty
+    ∷ at_least ∷ most ∷ ipv4 ∷ ipv6 ∷ max_others ∷ []
 taken tasks.Check = text ∷ strict ∷ []
 taken tasks.Overlaps = text ∷ []
 taken tasks.Find = text ∷ from ∷ []

@@ -33,8 +33,8 @@ abbrev pub is_value : ℕ → List ℕ → Bool
 is_value row text =
     if row == own.format then is_some (form_called text)
     else if row == own.prefix then is_some (prefix_in text)
-    else if (row == own.most || row == own.ipv4) || row == own.ipv6 then is_some (most_in text)
-    else if row == own.max_others then is_some (bound_in text)
+    else if ((row == own.most || row == own.ipv4) || row == own.ipv6) || row == own.at_least then is_some (most_in text)
+    else if row == own.max_others || row == own.max_change then is_some (bound_in text)
     else if row == own.set || row == own.table then is_set_name text
     else if row == own.maxelem then is_limit text
     else if row == own.from || row == own.text then not (length text == 0)

@@ -7,6 +7,7 @@ use Rattle.lists.specs.KnownLists.{KnownLists}
 use Rattle.program.specs.Reported.{was_refused}
 use Rattle.lists.specs.declared.named.ReadFault.{ReadFault}
 use Rattle.cidr_merge.specs.Answers.{IsAnswer}
+use Rattle.cidr_merge.specs.HeldBack.{IsHeldBack}
 use Rattle.cidr_merge.specs.Reading.{ReadsSides}
 use Rattle.cidr_merge.specs.Stopping.{StopsInSides}
 use Rattle.cidr_merge.specs.Writing.{EndsSilently, EndsWriting}
@@ -31,14 +32,20 @@ abbrev pub answer_status : Operation → Bool → Sets → Sets → ℕ
 answer_status operation skips first second =
     if skips then 3 else if are_unequal operation first second then 1 else 0
 
--- the lists of both sides were read: if lines were refused and are not to be skipped, nothing is written; otherwise the
--- result is written, unless the writer fails
+-- the result is held back, and nothing is written; or it is written, unless the writer fails
+abbrev pub EndsUnlessHeld : {W : Type 0} → Names → Request → Bool → Sets → Sets → Written W → Written W → ℕ → Type 0
+EndsUnlessHeld sets request skips first second old new status =
+    (IsHeldBack request first second true × EndsSilently old new status)
+    ⊎ (IsHeldBack request first second false
+    × (text : List ℕ) × IsAnswer sets request.operation request.form first second text
+    × EndsWriting old new status text (answer_status request.operation skips first second))
+
+-- the lists of both sides were read: if lines were refused and are not to be skipped, or the result is held back,
+-- nothing is written; otherwise the result is written, unless the writer fails
 abbrev pub EndsAnswering : {W : Type 0} → Names → Request → Bool → Sets → Sets → Written W → Written W → ℕ → Type 0
 EndsAnswering sets request skips first second old new status =
     ((skips && not request.skips_bad ≡ true) × EndsSilently old new status)
-    ⊎ ((skips && not request.skips_bad ≡ false)
-    × (text : List ℕ) × IsAnswer sets request.operation request.form first second text
-    × EndsWriting old new status text (answer_status request.operation skips first second))
+    ⊎ ((skips && not request.skips_bad ≡ false) × EndsUnlessHeld sets request skips first second old new status)
 
 -- a list was not read to its end, and nothing was written; or all were read, and the result was written
 abbrev pub EndsMerging : {Z W : Type 0} → KnownLists → List (String Z) → Names → Request → Written W → Written W → ℕ

@@ -1,5 +1,6 @@
-//! How many other addresses a reduced list may have.
-ghost use Rattle.std.specs.Prelude.{◌≡◌, ◌+◌, ◌*◌, ◌/◌, ◌-◌, ◌^◌, ◌<◌, ℕ, min, nat_le};
+//! How many other addresses a reduced list may have, and how many may differ from an old one.
+ghost use Rattle.std.specs.Prelude.{◌≡◌, ◌+◌, ◌*◌, ◌/◌, ◌^◌, ◌<◌, ℕ, min, nat_le};
+ghost use Rattle.std.specs.Prelude.{SomeIff};
 ghost use Rattle.ipnetwork_sets.specs.Counts.{count_number};
 ghost use Rattle.line_addresses.specs.Numbers.{number_of};
 ghost use Rattle.cidr_merge.specs.Bounds.{allows, bound_in, large_number};
@@ -7,7 +8,7 @@ ghost use Rattle.cidr_merge.specs.Bounds.{allows, bound_in, large_number};
 use ipnetwork_sets::AddressCount;
 use line_addresses::is_number;
 
-/// A bound on how many other addresses a family may have.
+/// A bound on how many addresses of a family may be others, or differ.
 #[derive(Clone, Copy, Debug, PartialEq, Eq)]
 pub enum Bound {
     /// None.
@@ -57,17 +58,58 @@ pub(crate) fn allowed(bound: Bound, addresses: AddressCount) -> u128
     match bound {
         Bound::Any => u128::MAX,
         Bound::Number(number) => number,
-        Bound::Percent(percent) => percent_of(percent, addresses),
+        Bound::Percent(percent) => match percent_of(percent, addresses) {
+            Some(number) => number,
+            None => u128::MAX,
+        },
     }
 }
 
-// So many percent of a count, or `u128::MAX` if that is greater.
-fn percent_of(percent: u128, count: AddressCount) -> u128
-    ensures { result ≡ min (percent * count_number count / 100) (2 ^ 128 - 1) }
+/// Whether the bound allows so many other addresses beside so many of the lists.
+pub(crate) fn does_allow(bound: Bound, addresses: AddressCount, others: AddressCount) -> bool
+    ensures { result ≡ allows bound (count_number addresses) (count_number others) }
+{
+    match others {
+        AddressCount::Number(others) => others <= allowed(bound, addresses),
+        AddressCount::AllOfIpv6 => allows_all(bound, addresses),
+    }
+}
+
+// Whether the bound allows 2^128 other addresses beside so many of the lists.
+fn allows_all(bound: Bound, addresses: AddressCount) -> bool
+    ensures { result ≡ allows bound (count_number addresses) (2 ^ 128) }
+{
+    match bound {
+        Bound::Any => true,
+        Bound::Number(_) => false,
+        Bound::Percent(percent) => percent_of(percent, addresses).is_none(),
+    }
+}
+
+// So many percent of a count, unless that is greater than `u128::MAX`.
+fn percent_of(percent: u128, count: AddressCount) -> Option<u128>
+    ensures { SomeIff result (percent * count_number count / 100 < 2 ^ 128)
+        (percent * count_number count / 100) }
 {
     let (hundreds, rest) = in_hundreds(count);
     let of_rest = percent / 100 * rest + percent % 100 * rest / 100;
-    percent.saturating_mul(hundreds).saturating_add(of_rest)
+    match percent.checked_mul(hundreds) {
+        Some(of_hundreds) => of_hundreds.checked_add(of_rest),
+        None => None,
+    }
+}
+
+/// The sum of two counts, or 2^128 if that is less.
+pub(crate) fn sum(one: AddressCount, other: AddressCount) -> AddressCount
+    ensures { count_number result ≡ min (count_number one + count_number other) (2 ^ 128) }
+{
+    let (AddressCount::Number(one), AddressCount::Number(other)) = (one, other) else {
+        return AddressCount::AllOfIpv6;
+    };
+    match one.checked_add(other) {
+        Some(sum) => AddressCount::Number(sum),
+        None => AddressCount::AllOfIpv6,
+    }
 }
 
 // How many hundreds a count has, and what is left of it.

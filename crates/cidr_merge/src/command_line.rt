@@ -2,11 +2,11 @@
 ghost use Rattle.std.specs.Prelude.{◌≡◌, ◌≤◌, ◌+◌, ◌++◌, ℕ, length, map, IfOk, OnOk};
 ghost use Rattle.std.specs.String.{string_bytes};
 ghost use Rattle.cidr_merge.specs.RightWords.{from_of};
-ghost use Rattle.cidr_merge.specs.Bounds.{bound_of};
+ghost use Rattle.cidr_merge.specs.Bounds.{bound_of, change_of};
 ghost use Rattle.cidr_merge.specs.CommandLines.{request_of, reduction_of, inspection_of, asked_for};
 ghost use Rattle.cidr_merge.specs.CommandLines.{command_for, command_of, told_of, sets_by, sets_of};
 ghost use Rattle.cidr_merge.specs.Forms.{form_called, form_of, shape_of, without_plus};
-ghost use Rattle.cidr_merge.specs.Forms.{prefix_in, length_of, most_in, most_of};
+ghost use Rattle.cidr_merge.specs.Forms.{prefix_in, length_of, most_in, most_of, at_least_of};
 ghost use Rattle.cidr_merge.specs.Private.Words.{IsCommandWithin};
 
 use crate::bounds::{Bound, bound_in};
@@ -15,8 +15,8 @@ use crate::exports::Export;
 use crate::faults::{fault_of, from_count, no_task_fault};
 use crate::named_lists::{add_file, lists_of};
 use crate::rows::{
-    COUNT, FORMAT, FROM, IPV4, IPV6, JSON, MAX_OTHERS, MOST, PREFIX, RANGES, SKIP_BAD, STRICT,
-    table,
+    ALLOW_EMPTY, AT_LEAST, COUNT, FORMAT, FROM, IPV4, IPV6, JSON, MAX_CHANGE, MAX_OTHERS, MOST,
+    PREFIX, RANGES, SKIP_BAD, STRICT, table,
 };
 use crate::set_names::{SetNames, names_of};
 use crate::shapes::Shape;
@@ -67,6 +67,12 @@ pub struct Request {
     pub skips_bad: bool,
     /// How the lists are written.
     pub shape: Shape,
+    /// Whether a form that fills sets is printed if the result has no network.
+    pub allows_empty: bool,
+    /// The least number of networks of a result that is printed; 0 if none is given.
+    pub at_least: u64,
+    /// How many addresses of each family may differ.
+    pub max_change: Bound,
     /// The number of lists on the first side; those of the second follow.
     pub middle: usize,
 }
@@ -80,6 +86,8 @@ pub struct SplitRequest {
     pub skips_bad: bool,
     /// How the lists are written.
     pub shape: Shape,
+    /// The least number of networks that are cut and printed; 0 if none is given.
+    pub at_least: u64,
 }
 
 /// How lists are reduced.
@@ -224,6 +232,7 @@ fn asked_for(task: Task, items: &[Item<'_>], middle: usize) -> Command
             length: length_of(items),
             skips_bad: is_given(items, SKIP_BAD),
             shape: shape_of(items),
+            at_least: at_least_of(items),
         }),
         Task::Reduce => Command::Reduce(reduction_of(items, middle)),
         Task::Check => Command::Inspect(inspection_of(is_given(items, STRICT))),
@@ -241,6 +250,9 @@ fn request_of(operation: Operation, usual: Form, items: &[Item<'_>], middle: usi
         form: form_of(usual, items),
         skips_bad: is_given(items, SKIP_BAD),
         shape: shape_of(items),
+        allows_empty: is_given(items, ALLOW_EMPTY),
+        at_least: at_least_of(items),
+        max_change: change_of(items),
         middle,
     }
 }
@@ -326,6 +338,20 @@ fn bound_of(items: &[Item<'_>]) -> Bound
     ensures { result ≡ bound_of items.now }
 {
     bound_in(value_of(items, MAX_OTHERS)).unwrap_or(Bound::Percent(100))
+}
+
+// How many addresses of each family may differ: any number, if nothing is given.
+fn change_of(items: &[Item<'_>]) -> Bound
+    ensures { result ≡ change_of items.now }
+{
+    bound_in(value_of(items, MAX_CHANGE)).unwrap_or(Bound::Any)
+}
+
+// The least number of networks of a result that is printed: 0 if none is given.
+fn at_least_of(items: &[Item<'_>]) -> u64
+    ensures { result ≡ at_least_of items.now }
+{
+    most_in(value_of(items, AT_LEAST)).unwrap_or(0)
 }
 
 /// The number from 1 that a text is.

@@ -10,12 +10,15 @@ use ipnetwork::CidrNetwork;
 use ipnetwork_addr::decimal::push_number;
 use ipnetwork_blocks::AddressSpace;
 use ipnetwork_sets::{AddressCount, SetBlocks};
+use lines::output::Output;
+use program::messages::tell;
+use std::io::Write;
 
 /// The number of blocks, and of the addresses in them.
 #[derive(Clone, Copy, Debug)]
 pub(crate) struct Counts {
     blocks: u128,
-    addresses: AddressCount,
+    pub(crate) addresses: AddressCount,
 }
 
 /// Both numbers as a text.
@@ -62,4 +65,42 @@ fn push_count(text: &mut CountText, count: AddressCount)
         AddressCount::Number(number) => push_number(text, number),
         AddressCount::AllOfIpv6 => text.push_str("340282366920938463463374607431768211456"),
     }
+}
+
+/// Reports a count of addresses, as `tell_count` does a number.
+pub(crate) fn tell_addresses<E: Write>(count: AddressCount, errors: &mut Output<'_, E>) {
+    match count {
+        AddressCount::Number(number) => tell_count(number, errors),
+        AddressCount::AllOfIpv6 => {
+            tell(
+                "340,282,366,920,938,463,463,374,607,431,768,211,456",
+                errors,
+            );
+        }
+    }
+}
+
+/// Reports a number, with a comma before each three digits that others precede.
+pub(crate) fn tell_count<E: Write>(count: u128, errors: &mut Output<'_, E>) {
+    if count < 1000 {
+        return tell_number(count, errors);
+    }
+    tell_count(count / 1000, errors);
+    let three = count % 1000;
+    let zeros = if three < 10 {
+        ",00"
+    } else if three < 100 {
+        ",0"
+    } else {
+        ","
+    };
+    tell(zeros, errors);
+    tell_number(three, errors);
+}
+
+// Reports a number.
+fn tell_number<E: Write>(number: u128, errors: &mut Output<'_, E>) {
+    let mut text = ArrayString::<40>::new();
+    push_number(&mut text, number);
+    tell(text.as_str(), errors);
 }

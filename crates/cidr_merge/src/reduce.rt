@@ -8,14 +8,13 @@ ghost use Rattle.cidr_merge.specs.Reductions.{IsReduced, lacks_number};
 use crate::bounds::{Bound, allowed};
 use crate::command_line::ReduceRequest;
 use crate::context::Context;
+use crate::counts::tell_count;
 use crate::help::PROGRAM;
 use crate::printing::Merging;
 use crate::reading::{Sets, read_side, refuse_lists};
 use crate::run::answer;
 use crate::set_names::SetNames;
-use arrayvec::ArrayString;
 use ipnetwork::{Ipv4Network, Ipv6Network};
-use ipnetwork_addr::decimal::push_number;
 use ipnetwork_blocks::AddressSpace;
 use ipnetwork_sets::AddressSet;
 use lines::output::Output;
@@ -194,29 +193,4 @@ fn tell_others<E: Write>(v4: u128, v6: u128, errors: &mut Output<'_, E>) {
     tell(" other addresses of IPv4, ", errors);
     tell_count(v6, errors);
     tell(" of IPv6\n", errors);
-}
-
-// Reports a number, with a comma before each three digits that others precede.
-fn tell_count<E: Write>(count: u128, errors: &mut Output<'_, E>) {
-    if count < 1000 {
-        return tell_number(count, errors);
-    }
-    tell_count(count / 1000, errors);
-    let three = count % 1000;
-    let zeros = if three < 10 {
-        ",00"
-    } else if three < 100 {
-        ",0"
-    } else {
-        ","
-    };
-    tell(zeros, errors);
-    tell_number(three, errors);
-}
-
-// Reports a number.
-fn tell_number<E: Write>(number: u128, errors: &mut Output<'_, E>) {
-    let mut text = ArrayString::<40>::new();
-    push_number(&mut text, number);
-    tell(text.as_str(), errors);
 }

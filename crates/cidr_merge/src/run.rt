@@ -13,6 +13,7 @@ ghost use Rattle.cidr_merge.specs.Stopping.{StopsInSides};
 use crate::command_line::{Command, Operation, Request, command_of};
 use crate::context::Context;
 use crate::find::find;
+use crate::held_back::is_held_back;
 use crate::help::{HELP, PROGRAM, USAGE, VERSION};
 use crate::inspecting::inspect;
 use crate::printing::{Merging, print};
@@ -163,8 +164,8 @@ fn lists_behind<'a>(read: &Result<(), ReadFault>, names: &'a [String]) -> &'a [S
     if read.is_err() { &[] } else { names }
 }
 
-/// Prints the result of the operation, unless lines were refused that are not to be skipped, and
-/// returns the exit status.
+/// Prints the result of the operation, unless lines were refused that are not to be skipped, or it
+/// is held back, and returns the exit status.
 pub(crate) fn answer<W: Write, E: Write>(
     merging: &Merging<'_>,
     skips: bool,
@@ -176,6 +177,9 @@ pub(crate) fn answer<W: Write, E: Write>(
 {
     let request = merging.request;
     if skips && !request.skips_bad {
+        return FAILED;
+    }
+    if is_held_back(merging, errors) {
         return FAILED;
     }
     let status = status(request.operation, skips, merging.first, merging.second);

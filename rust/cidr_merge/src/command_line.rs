@@ -10,8 +10,8 @@ use crate::exports::Export;
 use crate::faults::{fault_of, from_count, no_task_fault};
 use crate::named_lists::{add_file, lists_of};
 use crate::rows::{
-    COUNT, FORMAT, FROM, IPV4, IPV6, JSON, MAX_OTHERS, MOST, PREFIX, RANGES, SKIP_BAD, STRICT,
-    table,
+    ALLOW_EMPTY, AT_LEAST, COUNT, FORMAT, FROM, IPV4, IPV6, JSON, MAX_CHANGE, MAX_OTHERS, MOST,
+    PREFIX, RANGES, SKIP_BAD, STRICT, table,
 };
 use crate::set_names::{SetNames, names_of};
 use crate::shapes::Shape;
@@ -62,6 +62,12 @@ pub struct Request {
     pub skips_bad: bool,
     /// How the lists are written.
     pub shape: Shape,
+    /// Whether a form that fills sets is printed if the result has no network.
+    pub allows_empty: bool,
+    /// The least number of networks of a result that is printed; 0 if none is given.
+    pub at_least: u64,
+    /// How many addresses of each family may differ.
+    pub max_change: Bound,
     /// The number of lists on the first side; those of the second follow.
     pub middle: usize,
 }
@@ -75,6 +81,8 @@ pub struct SplitRequest {
     pub skips_bad: bool,
     /// How the lists are written.
     pub shape: Shape,
+    /// The least number of networks that are cut and printed; 0 if none is given.
+    pub at_least: u64,
 }
 
 /// How lists are reduced.
@@ -198,6 +206,7 @@ fn asked_for(task: Task, items: &[Item<'_>], middle: usize) -> Command {
             length: length_of(items),
             skips_bad: is_given(items, SKIP_BAD),
             shape: shape_of(items),
+            at_least: at_least_of(items),
         }),
         Task::Reduce => Command::Reduce(reduction_of(items, middle)),
         Task::Check => Command::Inspect(inspection_of(is_given(items, STRICT))),
@@ -213,6 +222,9 @@ fn request_of(operation: Operation, usual: Form, items: &[Item<'_>], middle: usi
         form: form_of(usual, items),
         skips_bad: is_given(items, SKIP_BAD),
         shape: shape_of(items),
+        allows_empty: is_given(items, ALLOW_EMPTY),
+        at_least: at_least_of(items),
+        max_change: change_of(items),
         middle,
     }
 }
@@ -282,6 +294,16 @@ fn most_of(items: &[Item<'_>], row: usize) -> usize {
 // How many other addresses each family may have: as many as the lists have, if nothing is given.
 fn bound_of(items: &[Item<'_>]) -> Bound {
     bound_in(value_of(items, MAX_OTHERS)).unwrap_or(Bound::Percent(100))
+}
+
+// How many addresses of each family may differ: any number, if nothing is given.
+fn change_of(items: &[Item<'_>]) -> Bound {
+    bound_in(value_of(items, MAX_CHANGE)).unwrap_or(Bound::Any)
+}
+
+// The least number of networks of a result that is printed: 0 if none is given.
+fn at_least_of(items: &[Item<'_>]) -> u64 {
+    most_in(value_of(items, AT_LEAST)).unwrap_or(0)
 }
 
 /// The number from 1 that a text is.

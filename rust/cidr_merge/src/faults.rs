@@ -7,8 +7,8 @@ use crate::bounds::bound_in;
 use crate::command_line::{Form, Operation, form_called, form_of, most_in, prefix_in};
 use crate::exports::Export;
 use crate::rows::{
-    AFTER, BEFORE, FORMAT, FROM, IPV4, IPV6, JSON, MAX_OTHERS, MAXELEM, MOST, PREFIX, SET, STRICT,
-    TABLE, TEXT, taken,
+    AFTER, AT_LEAST, BEFORE, FORMAT, FROM, IPV4, IPV6, JSON, MAX_CHANGE, MAX_OTHERS, MAXELEM, MOST,
+    PREFIX, SET, STRICT, TABLE, TEXT, taken,
 };
 use crate::set_names::{is_limit, is_set_name};
 use crate::tasks::{ONE_SIDE, Task, is_two_sided, no_first, no_option};
@@ -63,8 +63,8 @@ fn is_value(row: usize, text: &str) -> bool {
     match row {
         FORMAT => form_called(text).is_some(),
         PREFIX => prefix_in(text).is_some(),
-        MOST | IPV4 | IPV6 => most_in(text).is_some(),
-        MAX_OTHERS => bound_in(text).is_some(),
+        MOST | IPV4 | IPV6 | AT_LEAST => most_in(text).is_some(),
+        MAX_OTHERS | MAX_CHANGE => bound_in(text).is_some(),
         SET | TABLE => is_set_name(text),
         MAXELEM => is_limit(text),
         FROM | TEXT => !text.is_empty(),
@@ -143,11 +143,12 @@ fn cannot_print(task: Task, form: Form) -> bool {
     }
 }
 
-// Whether a form has sets, a table, and a limit for its sets.
-fn has_sets(form: Form) -> bool {
+/// Whether a form has sets.
+pub(crate) fn has_sets(form: Form) -> bool {
     matches!(form, Form::Exported(Export::Nft | Export::Ipset))
 }
 
+// Whether a form has a table, and a limit for its sets.
 fn has_table(form: Form) -> bool {
     matches!(form, Form::Exported(Export::Nft))
 }

@@ -23,6 +23,7 @@ mod exports;
 mod faults;
 mod find;
 mod findings;
+mod held_back;
 mod help;
 mod inspecting;
 mod merge_join;

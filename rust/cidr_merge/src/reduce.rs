@@ -6,14 +6,13 @@ use fosibegan_core::plain_std::vec::Vec;
 use crate::bounds::{Bound, allowed};
 use crate::command_line::ReduceRequest;
 use crate::context::Context;
+use crate::counts::tell_count;
 use crate::help::PROGRAM;
 use crate::printing::Merging;
 use crate::reading::{Sets, read_side, refuse_lists};
 use crate::run::answer;
 use crate::set_names::SetNames;
-use fosibegan_core::plain_std::arrayvec::ArrayString;
 use fosibegan_core::ipnetwork::{Ipv4Network, Ipv6Network};
-use fosibegan_core::ipnetwork_addr::decimal::push_number;
 use fosibegan_core::ipnetwork_blocks::AddressSpace;
 use fosibegan_core::ipnetwork_sets::AddressSet;
 use cidr_programs::lines::output::Output;
@@ -169,29 +168,4 @@ fn tell_others<E: Write>(v4: u128, v6: u128, errors: &mut Output<'_, E>) {
     tell(" other addresses of IPv4, ", errors);
     tell_count(v6, errors);
     tell(" of IPv6\n", errors);
-}
-
-// Reports a number, with a comma before each three digits that others precede.
-fn tell_count<E: Write>(count: u128, errors: &mut Output<'_, E>) {
-    if count < 1000 {
-        return tell_number(count, errors);
-    }
-    tell_count(count / 1000, errors);
-    let three = count % 1000;
-    let zeros = if three < 10 {
-        ",00"
-    } else if three < 100 {
-        ",0"
-    } else {
-        ","
-    };
-    tell(zeros, errors);
-    tell_number(three, errors);
-}
-
-// Reports a number.
-fn tell_number<E: Write>(number: u128, errors: &mut Output<'_, E>) {
-    let mut text = ArrayString::<40>::new();
-    push_number(&mut text, number);
-    tell(text.as_str(), errors);
 }

@@ -2,6 +2,7 @@
 
 //! The options of the command line, and which of them each task takes.
 
+use crate::command_line::Operation;
 use crate::tasks::Task;
 use cidr_programs::options::table::{Kind, Pair, Row, Table, letter, long, pair};
 
@@ -59,8 +60,17 @@ pub(crate) const IPV6: usize = 16;
 /// The row of `--max-others`.
 pub(crate) const MAX_OTHERS: usize = 17;
 
+/// The row of `--allow-empty`.
+pub(crate) const ALLOW_EMPTY: usize = 18;
+
+/// The row of `--at-least`.
+pub(crate) const AT_LEAST: usize = 19;
+
+/// The row of `--max-change`.
+pub(crate) const MAX_CHANGE: usize = 20;
+
 // The options.
-const ROWS: [Row; 21] = [
+const ROWS: [Row; 24] = [
     long!("--ranges", Flag, false, ""),
     long!("--count", Flag, false, ""),
     long!(
@@ -89,12 +99,10 @@ const ROWS: [Row; 21] = [
     ),
     long!("--ipv4", Number, true, NO_COUNT),
     long!("--ipv6", Number, true, NO_COUNT),
-    long!(
-        "--max-others",
-        Text,
-        true,
-        "not a number, a number with a % behind it, or any"
-    ),
+    long!("--max-others", Text, true, NO_BOUND),
+    long!("--allow-empty", Flag, false, ""),
+    long!("--at-least", Number, true, NO_COUNT),
+    long!("--max-change", Text, true, NO_BOUND),
     long!("--help", Alone, false, "not the only argument"),
     long!("--version", Alone, false, "not the only argument"),
     long!(
@@ -108,8 +116,12 @@ const ROWS: [Row; 21] = [
 // The message for a value of `--set` or `--table` that is not a name.
 const NO_NAME: &str = "not a name of 1 to 22 letters, digits, _, - and ., the first a letter";
 
-// The message for a value of `--most`, `--ipv4` or `--ipv6` that is not a number from 1.
+// The message for a value of `--most`, `--ipv4`, `--ipv6` or `--at-least` that is not a number
+// from 1.
 const NO_COUNT: &str = "not a number from 1";
+
+// The message for a value of `--max-others` or `--max-change` that is not a bound.
+const NO_BOUND: &str = "not a number, a number with a % behind it, or any";
 
 // The message for `--most` together with the number of a family.
 const TWO_COUNTS: &str = "--most: not together with --ipv4 or --ipv6";
@@ -118,7 +130,7 @@ const TWO_COUNTS: &str = "--most: not together with --ipv4 or --ipv6";
 const ANOTHER_FORM: &str = "--format: given twice, or together with --ranges or --count";
 
 // The pairs of options that exclude each other.
-const PAIRS: [Pair; 17] = [
+const PAIRS: [Pair; 20] = [
     pair!(RANGES, COUNT, "--ranges: not together with --count"),
     pair!(FORMAT, FORMAT, ANOTHER_FORM),
     pair!(FORMAT, RANGES, ANOTHER_FORM),
@@ -136,6 +148,13 @@ const PAIRS: [Pair; 17] = [
     pair!(IPV4, IPV4, "--ipv4: given twice"),
     pair!(IPV6, IPV6, "--ipv6: given twice"),
     pair!(MAX_OTHERS, MAX_OTHERS, "--max-others: given twice"),
+    pair!(AT_LEAST, AT_LEAST, "--at-least: given twice"),
+    pair!(MAX_CHANGE, MAX_CHANGE, "--max-change: given twice"),
+    pair!(
+        ALLOW_EMPTY,
+        AT_LEAST,
+        "--allow-empty: not together with --at-least"
+    ),
 ];
 
 /// The options.
@@ -148,16 +167,66 @@ pub(crate) fn table() -> Table<'static> {
     }
 }
 
-// The options of a merge, a `split`, a `reduce` and a `check`, by the indices of their rows.
-const OF_MERGES: [usize; 12] = [
-    TEXT, RANGES, COUNT, FORMAT, SET, TABLE, MAXELEM, BEFORE, AFTER, SKIP_BAD, JSON, STRICT,
+// The options of a merge, a `differ`, a `split`, a `reduce` and a `check`, by the indices of their
+// rows.
+const OF_MERGES: [usize; 14] = [
+    TEXT,
+    RANGES,
+    COUNT,
+    FORMAT,
+    SET,
+    TABLE,
+    MAXELEM,
+    BEFORE,
+    AFTER,
+    SKIP_BAD,
+    JSON,
+    STRICT,
+    ALLOW_EMPTY,
+    AT_LEAST,
 ];
 
-const OF_SPLIT: [usize; 7] = [TEXT, PREFIX, BEFORE, AFTER, SKIP_BAD, JSON, STRICT];
+const OF_DIFFER: [usize; 15] = [
+    TEXT,
+    RANGES,
+    COUNT,
+    FORMAT,
+    SET,
+    TABLE,
+    MAXELEM,
+    BEFORE,
+    AFTER,
+    SKIP_BAD,
+    JSON,
+    STRICT,
+    ALLOW_EMPTY,
+    AT_LEAST,
+    MAX_CHANGE,
+];
 
-const OF_REDUCE: [usize; 16] = [
-    TEXT, RANGES, COUNT, FORMAT, SET, TABLE, MAXELEM, BEFORE, AFTER, SKIP_BAD, JSON, STRICT, MOST,
-    IPV4, IPV6, MAX_OTHERS,
+const OF_SPLIT: [usize; 8] = [
+    TEXT, PREFIX, BEFORE, AFTER, SKIP_BAD, JSON, STRICT, AT_LEAST,
+];
+
+const OF_REDUCE: [usize; 18] = [
+    TEXT,
+    RANGES,
+    COUNT,
+    FORMAT,
+    SET,
+    TABLE,
+    MAXELEM,
+    BEFORE,
+    AFTER,
+    SKIP_BAD,
+    JSON,
+    STRICT,
+    ALLOW_EMPTY,
+    AT_LEAST,
+    MOST,
+    IPV4,
+    IPV6,
+    MAX_OTHERS,
 ];
 
 const OF_CHECK: [usize; 2] = [TEXT, STRICT];
@@ -165,6 +234,7 @@ const OF_CHECK: [usize; 2] = [TEXT, STRICT];
 /// The options that a task takes, by the indices of their rows.
 pub(crate) fn taken(task: Task) -> &'static [usize] {
     match task {
+        Task::Merge(Operation::Differ) => &OF_DIFFER,
         Task::Merge(_) | Task::List => &OF_MERGES,
         Task::Split => &OF_SPLIT,
         Task::Reduce => &OF_REDUCE,

@@ -6,6 +6,7 @@ use fosibegan_core::plain_std::string::String;
 use crate::command_line::{Command, Operation, Request, command_of};
 use crate::context::Context;
 use crate::find::find;
+use crate::held_back::is_held_back;
 use crate::help::{HELP, PROGRAM, USAGE, VERSION};
 use crate::inspecting::inspect;
 use crate::printing::{Merging, print};
@@ -134,8 +135,8 @@ fn lists_behind<'a>(read: &Result<(), ReadFault>, names: &'a [String]) -> &'a [S
     if read.is_err() { &[] } else { names }
 }
 
-/// Prints the result of the operation, unless lines were refused that are not to be skipped, and
-/// returns the exit status.
+/// Prints the result of the operation, unless lines were refused that are not to be skipped, or it
+/// is held back, and returns the exit status.
 pub(crate) fn answer<W: Write, E: Write>(
     merging: &Merging<'_>,
     skips: bool,
@@ -144,6 +145,9 @@ pub(crate) fn answer<W: Write, E: Write>(
 ) -> u8 {
     let request = merging.request;
     if skips && !request.skips_bad {
+        return FAILED;
+    }
+    if is_held_back(merging, errors) {
         return FAILED;
     }
     let status = status(request.operation, skips, merging.first, merging.second);

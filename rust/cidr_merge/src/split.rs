@@ -5,6 +5,7 @@
 use crate::command_line::SplitRequest;
 use crate::context::Context;
 use crate::cutting::print_pieces;
+use crate::held_back::{lacking_of_sets, tell_lacking};
 use crate::help::PROGRAM;
 use crate::reading::{Sets, read_side, refuse_lists};
 use crate::set_names::SetNames;
@@ -39,7 +40,8 @@ pub(crate) fn split<L: OpenLists, W: Write, E: Write>(
     }
 }
 
-// Prints the pieces of the networks, unless lines were refused that are not to be skipped.
+// Prints the pieces of the networks, unless lines were refused that are not to be skipped, or there
+// are too few networks.
 fn print_split<W: Write, E: Write>(
     names: &SetNames<'_>,
     request: SplitRequest,
@@ -49,6 +51,11 @@ fn print_split<W: Write, E: Write>(
     errors: &mut Output<'_, E>,
 ) -> u8 {
     if skips && !request.skips_bad {
+        return FAILED;
+    }
+    let lacking = lacking_of_sets(sets, request.at_least);
+    if lacking > 0 {
+        tell_lacking(lacking, request.at_least, errors);
         return FAILED;
     }
     let written = write_split(names, request.length, sets, output);

@@ -52,14 +52,17 @@ pub(crate) fn is_two_sided(task: Task) -> bool {
 /// The message for a word that begins with a `-` and is no option of a task.
 pub(crate) fn no_option(task: Task) -> &'static str {
     match task {
+        Task::Merge(Operation::Differ) => {
+            "not an option of differ; it takes --max-change N and the options of union"
+        }
         Task::Merge(_) | Task::List => {
-            "not an option of union, common, minus, differ or list; they take -e TEXT, --ranges, \
-             --count, --format FORM, --set NAME, --table NAME, --maxelem N, --line-prefix TEXT, \
-             --line-suffix TEXT, --skip-bad, --json and --strict"
+            "not an option of union, common, minus or list; they take -e TEXT, --ranges, --count, \
+             --format FORM, --set NAME, --table NAME, --maxelem N, --line-prefix TEXT, \
+             --line-suffix TEXT, --allow-empty, --at-least N, --skip-bad, --json and --strict"
         }
         Task::Split => {
             "not an option of split; it takes -e TEXT, --prefix N, --line-prefix TEXT, \
-             --line-suffix TEXT, --skip-bad, --json and --strict"
+             --line-suffix TEXT, --at-least N, --skip-bad, --json and --strict"
         }
         Task::Reduce => {
             "not an option of reduce; it takes --most N, --ipv4 N, --ipv6 N, --max-others N and \
