@@ -9,7 +9,7 @@ import pathlib
 import random
 import re
 
-import limits
+import unaddressed
 from cidr_filter_inputs import lacking
 
 LIST = ["10.0.0.0/8", "192.0.2.0/24", "2001:db8::/32", "::ffff:11.0.0.0/105"]
@@ -128,7 +128,7 @@ def shapes(program, folder):
         for words in (["-a"], ["-a", "-v"], ["-a", "--mapped"], ["-va", "--mapped"]):
             inverts, mapped = any("v" in word[:3] for word in words if word[:2] != "--"), "--mapped" in words
             output = wanted(lines, networks, anywhere, inverts, mapped).encode()
-            got = limits.run([program, *words, *lists], input=log, capture_output=True)
+            got = unaddressed.run([program, *words, *lists], input=log, capture_output=True)
             got = (got.stdout, got.stderr, got.returncode)
             yield f"{name}, {words}", got == (output, b"", 0 if output else 1), got
 
@@ -142,7 +142,7 @@ def texts(program, folder):
         for words in (["-ao"], ["-oa", "--mapped"]):
             found = [text for line in lines for text, one in of_line(line) if is_in(one, networks, "--mapped" in words)]
             output = "".join(f"{text}\n" for text in found).encode()
-            got = limits.run([program, *words, *lists], input=log, capture_output=True)
+            got = unaddressed.run([program, *words, *lists], input=log, capture_output=True)
             got = (got.stdout, got.stderr, got.returncode)
             yield f"{name}, {words}", got == (output, b"", 0 if output else 1), got
 
@@ -168,7 +168,7 @@ def after(program, folder):
         for text in ("DST=", "from ", '"', ",", " ", "1", "peers"):
             first = lambda line: [found for _, found in of_line(value_after(line, text))][:1]
             output = wanted(lines, networks, first, False, False).encode()
-            got = limits.run([program, "--after", text, *lists], input=log, capture_output=True)
+            got = unaddressed.run([program, "--after", text, *lists], input=log, capture_output=True)
             got = (got.stdout, got.stderr, got.returncode)
             error = b"" if any(first(line) for line in lines) else lacking(f"after {text}")
             yield f"{name}, after {text}", got == (output, error, 0 if output else 1), got
@@ -187,7 +187,7 @@ def words(program, folder):
                 found = address(parts[number - 1]) if number <= len(parts) else None
                 return [found] if found else []
             output = wanted(lines, networks, at, False, False).encode()
-            got = limits.run([program, "-w", f"-k{number}", *lists], input=log, capture_output=True)
+            got = unaddressed.run([program, "-w", f"-k{number}", *lists], input=log, capture_output=True)
             got = (got.stdout, got.stderr, got.returncode)
             error = b"" if any(at(line) for line in lines) else lacking(f"in word {number}")
             yield f"{name}, word {number}", got == (output, error, 0 if output else 1), got
@@ -220,7 +220,7 @@ def parts(program, folder):
             found = lambda line: [one for _, one in of_line(part(line))]
             counts = lambda line: nth(found(line), which) if which else found(line)
             output = wanted(lines, networks, counts, False, False).encode()
-            got = limits.run([program, *place, *(["--nth", which] if which else ["-a"]), *lists], input=log, capture_output=True)
+            got = unaddressed.run([program, *place, *(["--nth", which] if which else ["-a"]), *lists], input=log, capture_output=True)
             got = (got.stdout, got.stderr, got.returncode)
             error = b"" if any(counts(line) for line in lines) else lacking(told, which)
             yield f"{name}, {place}, {which or 'all'}", got == (output, error, 0 if output else 1), got
@@ -234,10 +234,10 @@ def made_up_runs(program, folder):
     lines = ["".join(rng.choice(pieces) for _ in range(rng.randrange(1, 7))) for _ in range(60000)]
     output = "".join(f"{line}\n" for line in lines if of_line(line)).encode()
     log = "".join(f"{line}\n" for line in lines).encode()
-    got = limits.run([program, "-a", "-e", "0.0.0.0/0", "-e", "::/0"], input=log, capture_output=True)
+    got = unaddressed.run([program, "-a", "-e", "0.0.0.0/0", "-e", "::/0"], input=log, capture_output=True)
     yield "lines of pieces", (got.stdout, got.stderr, got.returncode) == (output, b"", 0), (got.stderr, got.returncode, len(got.stdout), len(output))
     none = "".join(f"{line}\n" for line in lines if not of_line(line)).encode()
-    got = limits.run([program, "-a", "-v", "--bad", "keep", "-e", "0.0.0.0/0", "-e", "::/0"], input=log, capture_output=True)
+    got = unaddressed.run([program, "-a", "-v", "--bad", "keep", "-e", "0.0.0.0/0", "-e", "::/0"], input=log, capture_output=True)
     yield "lines without an address", got.stdout == none, (got.stderr, got.returncode, len(got.stdout), len(none))
 
 
@@ -318,17 +318,17 @@ def networks(program, folder):
             forms = (lambda one: {one, unmapped(one)}) if more == ["--mapped"] else lambda one: {one}
             chosen = [line for line in lines if found(line) and any(has_all(blocks, form) for one in found(line) for form in forms(one)) != (more == ["-v"])]
             output = "".join(f"{line}\n" for line in chosen).encode()
-            got = limits.run([program, "--networks", *words, *more, *lists], input=log, capture_output=True)
+            got = unaddressed.run([program, "--networks", *words, *more, *lists], input=log, capture_output=True)
             got = (got.stdout, got.stderr, got.returncode)
             yield f"networks, {words} {more}", bool(output) and got == (output, b"", 0), got
     texts = [text for line in lines for text, one in spelled_networks(line) if has_all(blocks, one)]
     output = "".join(f"{text}\n" for text in texts).encode()
-    got = limits.run([program, "--networks", "-ao", *lists], input=log, capture_output=True)
+    got = unaddressed.run([program, "--networks", "-ao", *lists], input=log, capture_output=True)
     yield "networks, -ao", bool(output) and (got.stdout, got.stderr, got.returncode) == (output, b"", 0), got
     # The time grows as the line does: if each address of the first were looked for from its beginning, this took minutes.
     for piece in ("11.1.1.1/", "/11.1.1.1x", "11.1.1.1/33,", "/"):
         log = 4 * (piece * (1048000 // len(piece)) + " 10.0.0.0/8\n").encode()
-        got = limits.run([program, "--networks", "-ac", *lists], input=log, capture_output=True)
+        got = unaddressed.run([program, "--networks", "-ac", *lists], input=log, capture_output=True)
         yield f"networks, long lines of {piece}", (got.stdout, got.stderr, got.returncode) == (b"4\n", b"", 0), got
 
 
@@ -339,7 +339,7 @@ def formats(program, folder):
     yield "the table of formats", len(rows) >= 35, len(rows)
     for name, line, texts in rows:
         output = "".join(f"{text}\n" for text in re.findall("`([^`]+)`", texts))
-        got = limits.run([program, "-ao", "-e", "0.0.0.0/0", "-e", "::/0"], input=f"{line}\n".encode(), capture_output=True)
+        got = unaddressed.run([program, "-ao", "-e", "0.0.0.0/0", "-e", "::/0"], input=f"{line}\n".encode(), capture_output=True)
         yield f"a line of {name}", got.stdout.decode() == output, got
 
 
@@ -354,11 +354,11 @@ def families(program, folder):
             places = (lambda line: [one for _, one in of_line(line)]) if "a" in words[0] else (lambda line: [one for one in [address(line.split(" ")[0])] if one])
             found = lambda line: [one for one in places(line) if (asked(one) if mapped and version == 4 else one).version == version]
             output = wanted(lines, networks, found, "v" in words[0], mapped).encode()
-            got = limits.run([program, f"-{version}", *words, *lists], input=log, capture_output=True)
+            got = unaddressed.run([program, f"-{version}", *words, *lists], input=log, capture_output=True)
             got = (got.stdout, got.stderr, got.returncode)
             error = b"" if any(found(line) for line in lines) else lacking("anywhere in it" if "a" in words[0] else "in field 1")
             yield f"{name}, -{version} {words}", got == (output, error, 0 if output else 1), got
         texts = [text for line in lines for text, one in of_line(line) if one.version == 6 and any(one in network for network in networks)]
         output = "".join(f"{text}\n" for text in texts).encode()
-        got = limits.run([program, "-ao6", *lists], input=log, capture_output=True)
+        got = unaddressed.run([program, "-ao6", *lists], input=log, capture_output=True)
         yield f"{name}, -ao6", (got.stdout, got.stderr) == (output, b""), got

@@ -9,6 +9,7 @@ import subprocess
 import threading
 
 import limits
+import unaddressed
 
 PIPES = {"stdout": subprocess.PIPE, "stderr": subprocess.PIPE}
 LOGS = ("one", "two", "none_of_ten", "three", "nothing")
@@ -18,7 +19,7 @@ KINDS += (("", "-l", "-q", "-l -q"), ("", "-n", "-Z"))
 
 
 def run(words, folder, given=b""):
-    got = limits.run(words, input=given, cwd=folder, **PIPES)
+    got = unaddressed.run(words, input=given, cwd=folder, **PIPES)
     return got.stdout, got.stderr, got.returncode
 
 
@@ -81,7 +82,7 @@ def left(program, folder):
             reader, writer = os.pipe()
             os.set_blocking(reader, not fails)
             os.write(writer, given)
-            got = limits.run(command, cwd=folder, stdin=reader, **PIPES)
+            got = unaddressed.run(command, cwd=folder, stdin=reader, **PIPES)
             got = (got.stdout, got.stderr, got.returncode)
             os.close(reader)
             os.close(writer)

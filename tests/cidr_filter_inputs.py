@@ -11,6 +11,7 @@ import shutil
 import subprocess
 
 import limits
+import unaddressed
 
 # The size of a line, the smaller of two, by the bytes that a read of it gets.
 SIZES = {64: 62500, 1: 30000}
@@ -27,7 +28,7 @@ def lacking(place, count=""):
 
 
 def run(words, given, folder, **others):
-    got = limits.run(words, input=given, cwd=folder, **PIPES, **others)
+    got = unaddressed.run(words, input=given, cwd=folder, **PIPES, **others)
     return got.stdout, got.stderr, got.returncode
 
 
@@ -177,7 +178,7 @@ def not_blocking(program, folder):
         reader, writer = os.pipe()
         os.set_blocking(reader, False)
         os.write(writer, given)
-        got = limits.run([program, *words], cwd=folder, stdin=reader, **PIPES)
+        got = unaddressed.run([program, *words], cwd=folder, stdin=reader, **PIPES)
         got = (got.stdout, got.stderr, got.returncode)
         os.close(reader)
         os.close(writer)
@@ -210,7 +211,7 @@ REFUSED += ("-m1 -f made", "-l -f made", "-vqf made", "-nf made")
 
 def of_made_log(words, folder, **others):
     with open(os.path.join(folder, "made_log"), "rb") as log:
-        got = limits.run(words, stdin=log, cwd=folder, **PIPES, **others)
+        got = unaddressed.run(words, stdin=log, cwd=folder, **PIPES, **others)
     return got.stdout, got.stderr, got.returncode
 
 

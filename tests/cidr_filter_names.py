@@ -6,6 +6,7 @@ import shutil
 import subprocess
 
 import limits
+import unaddressed
 
 # A name, and what messages show: of U+009B, a control character, both bytes.
 NAMES = [
@@ -55,18 +56,18 @@ def in_messages(program, folder):
         for what, options, printed, cause, status in ROWS:
             put(path, what)
             words = [program, *options.split(), name] + (["log"] if options == "-f" else [])
-            got = limits.run(words, cwd=folder, capture_output=True)
+            got = unaddressed.run(words, cwd=folder, capture_output=True)
             told = b"cidr_filter: " + shown + cause + b"\n" if cause else b""
             got = (got.stdout, got.stderr, got.returncode)
             yield f"{options} {name}", got == (printed.replace(b"NAME", name), told, status), got
         put(path, b"10.0.0.1\n")
         with open(path, "ab") as output:
             how = {"stdout": output, "stderr": subprocess.PIPE, "preexec_fn": limits.small_files}
-            got = limits.run([program, "-f", "list", name], cwd=folder, **how)
+            got = unaddressed.run([program, "-f", "list", name], cwd=folder, **how)
         told = b"cidr_filter: " + shown + b": input file is also the output\n"
         yield f"-f list {name} >> {name}", (got.stderr, got.returncode) == (told, 2), got
         os.unlink(path)
-        got = limits.run([program, "-f", "list", "--after", name, "log"], cwd=folder, capture_output=True)
+        got = unaddressed.run([program, "-f", "list", "--after", name, "log"], cwd=folder, capture_output=True)
         told = b"cidr_filter: log: no line has an address after " + shown + b"\n"
         yield f"--after {name}", (got.stdout, got.stderr, got.returncode) == (b"", told, 1), got
 

@@ -10,7 +10,7 @@ use lines::output::Output;
 use lists::OpenFault;
 use program::arguments::is_stand_in;
 use program::log_fault::tell_fault_of;
-use program::messages::{tell, tell_head, tell_number};
+use program::messages::{tell, tell_head, tell_number, tell_of};
 use program::usage::tell_shown;
 use std::io::Write;
 
@@ -94,6 +94,103 @@ fn tell_place<E: Write>(text: &str, place: Place, errors: &mut Output<'_, E>) {
 fn tell_after<E: Write>(text: &Text<'_>, errors: &mut Output<'_, E>) {
     tell("after ", errors);
     tell_shown(text.bytes(), errors);
+}
+
+/// How many lines of the logs of a run have no address where one is looked for. A log in which none
+/// has one does not count: `tell_lacking` reports it.
+#[derive(Clone, Copy, Debug, PartialEq, Eq)]
+pub struct Unaddressed {
+    lines: u64,
+    bare: u64,
+}
+
+impl Unaddressed {
+    /// Returns the counts of no logs.
+    ///
+    /// ```
+    /// use log_programs::telling::Unaddressed;
+    ///
+    /// assert_eq!(rt; Unaddressed::new(), Unaddressed::new());
+    /// ```
+    pub fn new() -> Unaddressed {
+        Unaddressed { lines: 0, bare: 0 }
+    }
+
+    /// Counts the lines of a log.
+    ///
+    /// ```
+    /// use log_programs::log_stats::LogStats;
+    /// use log_programs::telling::Unaddressed;
+    ///
+    /// let (mut seen, mut all) = (LogStats::new(), Unaddressed::new());
+    /// seen.add(false);
+    /// all.add(&seen);
+    /// assert_eq!(rt; all, Unaddressed::new());
+    /// seen.add(true);
+    /// all.add(&seen);
+    /// assert!(rt; all != Unaddressed::new());
+    /// ```
+    pub fn add(&mut self, seen: &LogStats) {
+        if seen.is_addressed {
+            self.lines = self.lines.saturating_add(seen.lines);
+            self.bare = self.bare.saturating_add(seen.bare);
+        }
+    }
+}
+
+/// Reports, in the name of a program, how many lines have no address in this area, if some have
+/// none.
+///
+/// ```
+/// use line_addresses::{Area, Part, Pick, Place};
+/// use log_programs::log_stats::LogStats;
+/// use log_programs::telling::{Unaddressed, tell_unaddressed};
+///
+/// let area = Area { part: Part::Word(Place::Number(3)), pick: Pick::Whole };
+/// let (mut slice, mut room) = ([0; 64], [b'.'; 64]);
+/// let mut errors = lines::output::Output::new(room.as_mut_slice(), &mut slice);
+/// let (mut seen, mut all) = (LogStats::new(), Unaddressed::new());
+/// seen.add(true);
+/// seen.add(false);
+/// all.add(&seen);
+/// tell_unaddressed("cidr_filter", &area, &all, &mut errors);
+/// assert_eq!(rt; errors.finish(), Ok(()));
+/// drop(errors);
+/// assert!(rt; room.starts_with(b"cidr_filter: 1 of 2 lines has no address in word 3\n."));
+/// ```
+pub fn tell_unaddressed<E: Write>(
+    program: &str,
+    area: &Area<'_>,
+    counted: &Unaddressed,
+    errors: &mut Output<'_, E>,
+) {
+    if counted.bare > 0 {
+        tell_of(program, ": ", errors);
+        tell_number(counted.bare, errors);
+        tell(" of ", errors);
+        tell_number(counted.lines, errors);
+        tell(
+            if counted.bare == 1 {
+                " lines has "
+            } else {
+                " lines have "
+            },
+            errors,
+        );
+        tell_lacked(needed(area.pick), errors);
+        tell_where(&area.part, errors);
+        tell("\n", errors);
+    }
+}
+
+// Reports that fewer addresses are there than are needed.
+fn tell_lacked<E: Write>(number: u32, errors: &mut Output<'_, E>) {
+    if number > 1 {
+        tell("fewer than ", errors);
+        tell_needed(number, errors);
+    } else {
+        tell("no address ", errors);
+    }
 }
 
 /// Returns whether a line is missed: a line is too long, and such lines are not dropped.

@@ -51,8 +51,8 @@ Prints the lines of logs whose address is in a list of IP networks.
     --longest       begin each line with the longest network that has its address (with -a, the
                     first of its addresses that is in one), and a tab; a range counts as the fewest
                     networks that make it up. Not with -v or -c
-    --bad drop      a line without an address is never printed, not even with -v (the default), and
-                    lines that are too long are not reported
+    --bad drop      a line without an address is never printed, not even with -v, as by default; how
+                    many there are is not reported, nor are lines that are too long
     --bad keep      it is printed, after a minus sign and a tab with --longest
     --bad stop      it ends the program, and so does one that is too long
     --bad report    it is not printed; for each FILE is reported how many there are, and how many

@@ -11,7 +11,10 @@ use cidr_programs::line_addresses::Text;
 use cidr_programs::lines::output::Output;
 use cidr_programs::lines::watched::Watched;
 use cidr_programs::lists::{OpenFault, OpenLists, open_input, open_list};
-use cidr_programs::log_programs::telling::{is_missed, tell_closed, tell_lacking, tell_seen};
+use cidr_programs::log_programs::telling::{
+    Unaddressed, is_missed, tell_closed, tell_lacking, tell_seen, tell_unaddressed,
+};
+use cidr_programs::log_programs::without_address::WithoutAddress;
 use cidr_programs::program::ending::{FAILED, end};
 use cidr_programs::program::log_fault::{LogFault, stop};
 use cidr_programs::program::log_reader::LogReader;
@@ -80,17 +83,36 @@ pub(crate) fn filter_logs<'a, L: OpenLists, W: Write, E: Write>(
 ) -> u8 {
     let is_silent = filter.is_silent();
     let mut total = Outcome::new();
+    let mut unaddressed = Unaddressed::new();
     for file in files {
         if total.is_enough(is_silent) {
             return finish(total.status(is_silent), output, errors);
         }
         let name = file.as_str();
-        let Some(next) = filter_one(filter, lists, name, buffer, total, output, errors) else {
+        let Some(next) = filter_one(
+            filter,
+            lists,
+            name,
+            buffer,
+            total,
+            &mut unaddressed,
+            output,
+            errors,
+        ) else {
             return FAILED;
         };
         total = next;
     }
+    tell_left(filter, &unaddressed, errors);
     finish(total.status(is_silent), output, errors)
+}
+
+// Reports how many lines have no address, so that neither the run nor one with `-v` prints them,
+// unless nothing is printed or `--bad` says what becomes of them.
+fn tell_left<E: Write>(filter: &Filter<'_>, unaddressed: &Unaddressed, errors: &mut Output<'_, E>) {
+    if filter.bad == WithoutAddress::Unsaid && filter.shows != OutputMode::Nothing {
+        tell_unaddressed(PROGRAM, &filter.area, unaddressed, errors);
+    }
 }
 
 // Writes what waits, and returns the exit status: this one, or 2 if a write failed, which is
@@ -118,7 +140,7 @@ fn open_log<L: OpenLists>(
 }
 
 // Opens the log with this name and filters it, and returns what the logs up to it come to; those
-// before it came to `total`. What is missed is reported. If a fault ends the run, that is reported
+// before it came to `total`. What is missed is reported, and lines without an address counted. If a fault ends the run, that is reported
 // and `None` is returned.
 fn filter_one<'a, L: OpenLists, W: Write, E: Write>(
     filter: &mut Filter<'a>,
@@ -126,6 +148,7 @@ fn filter_one<'a, L: OpenLists, W: Write, E: Write>(
     name: &'a str,
     buffer: &mut [u8],
     total: Outcome,
+    unaddressed: &mut Unaddressed,
     output: &mut Output<'_, W>,
     errors: &mut Output<'_, E>,
 ) -> Option<Outcome> {
@@ -151,6 +174,7 @@ fn filter_one<'a, L: OpenLists, W: Write, E: Write>(
     match end {
         Ok(reached) => {
             if reached == Reached::End {
+                unaddressed.add(&seen);
                 tell_lacking(
                     PROGRAM,
                     &filter.area,
