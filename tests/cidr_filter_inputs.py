@@ -233,6 +233,8 @@ def in_parts(program, folder):
         for options in WHOLE:
             whole = of_made_log([program, *options.split()], folder)
             output, error, status = of_made_log([IN_PARTS, *options.split()], folder, **others)
+            # Each part tells of its own lines without an address.
+            error = unaddressed.TOLD.sub(b"", error)
             parts = output, b"".join(dict.fromkeys(error.splitlines(True))), status
             yield f"{options}, in parts", parts == whole, parts[1:]
         got = run([IN_PARTS, "-c", "-f", "made"], b"", folder, **others)

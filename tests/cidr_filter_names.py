@@ -26,7 +26,7 @@ ROWS = [
     ("folder", "-f", b"", b": cannot open: is a directory", 2),
     ("/proc/self/mem", "-f list", b"", b": cannot read", 2),
     ("/proc/self/mem", "-f", b"", b": cannot read", 2),
-    (b"x\n", "-f", b"", b":1: refused address", 2),
+    (b"x\n", "-f", b"", b":1: refused address: x", 2),
     (b"x\n", "-f list --bad stop", b"", b":1: refused address", 2),
     (b"x\n", "-f list", b"", b": no line has an address in field 1", 1),
     (b"x\n10.0.0.1\n", "-f list -c --bad report", b"1\n", b": lines without an address: 1, too long: 0", 0),

@@ -8,6 +8,8 @@ import subprocess
 
 import limits
 
+# A comment that begins with an entry, which is refused behind another.
+SECOND = " ;# 10.0.0.1"
 KINDS = {4: ipaddress.IPv4Address, 6: ipaddress.IPv6Address}
 
 
@@ -43,7 +45,8 @@ def some_line(dice):
         last = KINDS[address.version](min(int(address) + dice.randrange(64), 2**address.max_prefixlen - 1))
         ends = address, last
         text = f"{address}{dice.choice(('-', ' - '))}{last}"
-    return dice.choice(("", " ")) + text + dice.choice(("", "\t", " # 10.0.0.1", ";x")), ends
+    behind = dice.choice(("", "\t", " # was 10.0.0.1", ";x", SECOND))
+    return dice.choice(("", " ")) + text + behind, False if behind == SECOND else ends
 
 
 def has(ends, address):
@@ -53,6 +56,8 @@ def has(ends, address):
 
 def cause(line):
     """Why a wrong line is refused."""
+    if line.endswith(SECOND):
+        return "second entry"
     address = line.split("/")[0]
     if line.count("/") > 1:
         return "format"

@@ -1,6 +1,7 @@
 """Rows of `tests/cidr_merge` for documents of JSON, beside Python's `json` and `ipaddress`: a name, what a run gave and what
 is wanted, which is the status, standard output and standard error."""
 
+import gzip
 import ipaddress
 import json
 import os
@@ -53,6 +54,14 @@ OTHERS = [
     "10.0.0.0/8\n", "10.0.0.9-10.0.0.1", "::1-10.0.0.1", "10.0.0.0/8/8", "x", "-", "\u00e9", "10.0.0.0/8;", "[10.0.0.1]",
 ]  # fmt: skip
 
+GOOGLE_TOLD = b"google:1: refused address: 2024-04-05T19:34:38.123\ngoogle:5: refused address: 1712345678123\n"
+
+# Those that look like one, and so are refused without --strict too.
+ALIKE = {
+    "10.0.0.0/33", "10.0.0.0/8 ", "10.0.0.0/8 # office", "10.0.0.0/8\n", "10.0.0.9-10.0.0.1", "::1-10.0.0.1", "10.0.0.0/8/8",
+    "10.0.0.0/8;",
+}  # fmt: skip
+
 NOT_JSON = [
     b"", b"\n\n", b"{", b"[\n1,\n2", b"10.0.0.0/8\n10.1.0.0/16\n", b'["10.0.0.0/8",\n"10.1.0.0/16"\n', b'["10.0.0.0/8"]\n\n]',
     b'{\n "a": "10.0.0.0/8",\n "b" "c"\n}\n', b"['10.0.0.0/8']", b'["10.0.0.0/8"\n\n"10.1.0.0/16"]', b'{"a":\n\nnul}', b"# none\n",
@@ -86,6 +95,14 @@ def entry(text):
         return list(ipaddress.summarize_address_range(first, last))
     except (ValueError, TypeError):
         return None
+
+
+def has_host_bits(text):
+    """Whether a string names a network with host bits."""
+    try:
+        return "-" not in text and ipaddress.ip_network(text) is None
+    except ValueError:
+        return entry(text) is not None
 
 
 def union(documents):
@@ -151,14 +168,24 @@ def documents(program, folder):
         (b'{"10.0.0.0/8": 1}', b""),
         (b'{"a": "10.0.0.0/8", "a": "11.0.0.0/8"}', b"11.0.0.0/8\n"),
         (b"null", b""),
-        (b'["::/0", 10.5, "10.0.0.0/8\\n"]', b"::/0\n"),
-        (b'["10.0.0.0/' + b"0" * 2000 + b'8"]', b"10.0.0.0/8\n"),
+        (b'["::/0", 10.5, "10.0.0.0\\n"]', b"::/0\n"),
+        (b'["10.0.0.0/' + b"0" * 1014 + b'8"]', b"10.0.0.0/8\n"),
         (b"[" * 127 + b'"10.0.0.0/8"' + b"]" * 127, b"10.0.0.0/8\n"),
     ]:
         yield f"{text[:40]}", run(program, ["union", "--json", "-"], folder, text), (0, wanted, b"")
     told = b"-:1: not JSON, or more than 127 levels\n"
-    for text in (b"[" * 128 + b'"10.0.0.0/8"' + b"]" * 128, b"\xef\xbb\xbf[]", b'["\xff"]', b"[1e999]"):
+    for text in (b"[" * 128 + b'"10.0.0.0/8"' + b"]" * 128, b'["\xff"]', b"[1e999]"):
         yield f"{text[:40]}", run(program, ["union", "--json", "-"], folder, text), (2, b"", told)
+    for text, named in [
+        (b"\xef\xbb\xbf[]", b"byte order mark"),
+        ("\ufeff[]".encode("utf-16-le"), b"UTF-16 text"),
+        (gzip.compress(b"[]", mtime=0), b"gzip data"),
+        (b"[]\0", b"NUL byte"),
+    ]:
+        yield f"{named}", run(program, ["union", "--json", "-"], folder, text), (2, b"", b"-: not JSON, but %s\n" % named)
+    text = b'["::/0", "10.0.0.0/' + b"0" * 1015 + b'8"]'
+    told = b"-:2: refused length: 10.0.0.0/" + b"0" * 55 + b"..\n"
+    yield "a long string", run(program, ["union", "--json", "-"], folder, text), (2, b"", told)
     yield from refused(program, folder)
     yield from of_length(program, folder)
 
@@ -167,25 +194,29 @@ def documents(program, folder):
         document = [made_up(rng, 4) for _ in range(rng.randrange(1, 12))]
         indent = rng.choice([None, 1])
         write(folder, "made_up", json.dumps(document, indent=indent, ensure_ascii=bool(seed % 2)).encode())
-        yield f"--json, seed {seed}", run(program, ["union", "--json", "made_up"], folder), (0, union([document]), b"")
-        others = [place for place, text in enumerate(strings(document), 1) if entry(text) is None]
-        status, output, error = run(program, ["union", "--strict", "--json", "made_up"], folder)
-        places = [int(line.split(b":")[2]) for line in error.splitlines()]
-        wanted = (2, b"", others) if others else (0, union([document]), [])
-        yield f"--strict, seed {seed}", (status, output, places), wanted
+        texts = list(enumerate(strings(document), 1))
+        alike = [place for place, text in texts if text in ALIKE]
+        others = [place for place, text in texts if entry(text) is None or has_host_bits(text)]
+        for words, refused_places in [("--json", alike), ("--strict --json", others)]:
+            status, output, error = run(program, ["union", *words.split(), "made_up"], folder)
+            places = [int(line.split(b":")[2]) for line in error.splitlines() if b" more refused lines" not in line]
+            wanted = (2, b"", refused_places[:100]) if refused_places else (0, union([document]), [])
+            yield f"{words}, seed {seed}", (status, output, places), wanted
 
 
 def refused(program, folder):
     """Strings that are refused, words that are wrong, and documents that are none, with the lines that Python tells."""
     write(folder, "mixed", b'["10.0.0.0/8", "x", {"b": "1.2.3.4/33", "a": "2.0.0.0-1.0.0.0"}, "10.0.0.0/8/8"]')
-    told = b"mixed:2: refused address\nmixed:3: refused range\nmixed:4: refused prefix\nmixed:5: refused format\n"
+    like = b"mixed:3: refused range: 2.0.0.0-1.0.0.0\nmixed:4: refused prefix: 1.2.3.4/33\nmixed:5: refused format: 10.0.0.0/8/8\n"
+    told = b"mixed:2: refused address: x\n" + like
     for words, wanted in [
         ("union --json --strict mixed", (2, b"", told)),
         ("union --json --strict --skip-bad mixed", (3, b"10.0.0.0/8\n", told)),
         ("split --prefix 8 --json --strict mixed", (2, b"", told)),
         ("split --prefix 8 --skip-bad --json --strict mixed", (3, b"10.0.0.0/8\n", told)),
-        ("union --json mixed", (0, b"10.0.0.0/8\n", b"")),
-        ("minus --json --strict google -- mixed", (2, b"", b"google:1: refused address\ngoogle:5: refused address\n" + told)),
+        ("union --json mixed", (2, b"", like)),
+        ("union --json --skip-bad mixed", (3, b"10.0.0.0/8\n", like)),
+        ("minus --json --strict google -- mixed", (2, b"", GOOGLE_TOLD + told)),
         ("union --json missing", (2, b"", b"missing: cannot open: no such file\n")),
         ("union --json .", (2, b"", b".: cannot open: is a directory\n")),
     ]:

@@ -73,7 +73,7 @@ def made_up(rng):
     return nets
 
 
-BAD = b"some:3: refused address\n"
+BAD = b"some:3: refused address: x\n"
 BOTH = b"the FILEs have addresses of both families: reduce each, with --ipv4 N --ipv6 N\n"
 NO_NUMBER = b"reduce: no number behind it, and no --most N, --ipv4 N or --ipv6 N"
 NO_BOUND = b": not a number, a number with a % behind it, or any"

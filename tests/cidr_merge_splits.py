@@ -87,7 +87,7 @@ def splits(program, folder):
     yield "split of every address", got, (141, "".join(f"{ipaddress.ip_address('::') + n}/128\n" for n in range(FIRST)).encode(), b"")
     with open(os.path.join(folder, "made_up"), "w") as file:
         file.write("10.0.0.0/8\nx\n")
-    refused = b"made_up:2: refused address\n"
+    refused = b"made_up:2: refused address: x\n"
     for words, wanted in [
         ("split --prefix 9 made_up", (2, b"", refused)),
         ("split --prefix 9 --skip-bad made_up", (3, b"10.0.0.0/9\n10.128.0.0/9\n", refused)),

@@ -41,7 +41,6 @@ def are_right(task, options):
         all(option in TASKS[task] for option in options),
         len(forms) < 2,
         not any(words.count(word) > 1 for word in words if " " in options[words.index(word)] and word != "-e"),
-        "--strict" not in words or "--json" in words or name == "check",
         "--prefix" in words or name != "split",
         {"--most", "--ipv4", "--ipv6"} & set(words) or name != "reduce",
         not {"--allow-empty", "--at-least"} <= set(words),
@@ -94,7 +93,7 @@ def first_bytes(program, folder):
             file.write(line + b"\n")
         # A blank is ignored, and a line feed ends an empty line. A digit belongs to the number, which has no leading zero.
         is_address = byte in b" \t\n123456789"
-        shown = bytes([byte]) if byte in range(32, 127) or byte == 9 or byte >= 0xA0 else b"\\x%02x" % byte
+        shown = bytes([byte]) if byte in range(32, 127) or byte == 9 else b"\\x%02x" % byte
         text = line.strip(b" \t\n").decode("latin-1") if is_address else ""
         got = cidr_merge_finds.run(program, ["find", "--from", "line", "--", "every"], folder)
         cause = b"NUL byte" if byte == 0 else b"address"

@@ -58,3 +58,33 @@ def asked(name):
         subprocess.run(["rt", "run", "--", "--version"], cwd=crate, **how)
     limits.measure_by(program(name))
     return program(name), is_plain
+
+
+CAUSES = rb"address|format|prefix|range|byte order mark|UTF-16 text|gzip data|NUL byte|second entry|host bits"
+
+
+def with_texts(told, lists):
+    """What is told of refused lines, with the text of each after its cause, by the bytes of the lists of these names. Rows
+    leave the texts out, since they stand in the lists."""
+
+    def full(match):
+        begin, name, number, cause = match.groups()
+        if name not in lists:
+            return match[0]
+        lines = re.sub(rb"\r\n", b"\n", lists[name]).split(b"\n")
+        line = lines[int(number) - 1]
+        text = escaped(line[:64]) + (b".." if len(line) > 64 else b"")
+        return b"%s%s:%s: refused %s: %s" % (begin, name, number, cause, text)
+
+    pattern = rb"(?m)^((?:cidr_\w+: )?)(.+?):(\d+): refused (%s)(?=$| \(write )" % CAUSES
+    return re.sub(pattern, full, told)
+
+
+def escaped(text):
+    """A line as messages show it: what is no UTF-8, and characters that hide or turn others, by their bytes."""
+    hidden = re.compile("[\0-\x08\n-\x1f\x7f-\x9f\u061c\u200b-\u200f\u2028-\u202e\u2060-\u206f\ufeff\udc80-\udcff]")
+
+    def in_bytes(found):
+        return "".join(f"\\x{byte:02x}" for byte in found[0].encode("utf-8", "surrogateescape"))
+
+    return hidden.sub(in_bytes, text.decode("utf-8", "surrogateescape")).encode()

@@ -1,5 +1,5 @@
 -- Runs whose result is known at the first selected line, of one log or of all.
-use Rattle.cidr_filter.proofs.Words.{◌≡◌, List, [], ◌∷◌, ◌++◌, true, false, refl, codes, map, Some, None, is_count, count_line, status_by, most_of, shows_of, is_named, Filter, Item, ended}
+use Rattle.cidr_filter.proofs.Words.{◌≡◌, ℕ, digits, List, [], ◌∷◌, ◌++◌, true, false, refl, codes, map, Some, None, is_count, count_line, status_by, most_of, shows_of, is_named, Filter, Item, ended}
 use Rattle.cidr_filter.specs.declared.filter.OutputMode.TheVariants as shows
 use Rattle.cidr_filter.specs.declared.filter.Verdict.TheVariants as verdicts
 use Rattle.log_programs.specs.declared.without_address.WithoutAddress.TheVariants as without
@@ -56,6 +56,7 @@ no_number_beside_names = refl
 -- `-Z` puts NUL in place of the colon, and nothing without a name
 pub numbers_behind_nul : map (λ (label : List ℕ). count_line true true label 2) (codes "log" ∷ [] ∷ [])
     ≡ (codes "log" ++ 0 ∷ codes "2\n") ∷ codes "2\n" ∷ []
+unfolding digits
 numbers_behind_nul = refl
 
 -- ---- the exit status

@@ -257,6 +257,7 @@ pub names_before_nul : let filter = record (by false without.Drop)
     map (λ (f : Filter). output_of f 7 (verdicts.Inside None) (ended (codes "a")))
     (filter ∷ record filter { shows = shows.Names } ∷ record filter { name = [] } ∷ [])
     ≡ (codes "log" ++ 0 ∷ codes "7:a\n") ∷ (codes "log" ++ 0 ∷ []) ∷ codes "7:a\n" ∷ []
+unfolding digits
 names_before_nul = refl
 
 pub longest_named : (tables : Tables) → output_of (record (by false without.Keep)

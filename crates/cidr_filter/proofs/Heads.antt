@@ -1,5 +1,5 @@
 -- What is printed before a line.
-use Rattle.cidr_filter.proofs.Words.{◌≡◌, ℕ, ◌-◌, ◌^◌, ◌<◌, Bool, List, [], ◌∷◌, ◌++◌, ◌==◌, ◌∙◌, true, false, refl, sym, ap, length, min, decimal, arith, true≢false, ne_eqb, behind_name, name_head, number_head, count_line}
+use Rattle.cidr_filter.proofs.Words.{◌≡◌, ℕ, ◌-◌, ◌^◌, ◌<◌, Bool, List, [], ◌∷◌, ◌++◌, ◌==◌, ◌∙◌, true, false, refl, sym, ap, length, min, decimal, arith, true≢false, ne_eqb, behind_name, name_head, number_head, count_line, Filter, Spelled, is_printed, text_of}
 
 pub no_head : (nul : Bool) (name : List ℕ) → (length name == 0) ≡ true → [] ≡ name_head nul name
 no_head nul [] e = refl
@@ -25,3 +25,8 @@ some_count counts nul label selected e fits =
     let same : selected ≡ min selected (2 ^ 64 - 1) = omega (arith, fits) in
     ap (λ (n : ℕ). name_head nul label ++ (decimal n ++ 10 ∷ [])) same
     ∙ sym (ap (λ (b : Bool). count_line b nul label selected) e)
+
+-- nothing is printed for what is not
+pub no_text : (filter : Filter) (head : List ℕ) (found : Spelled) → is_printed filter found ≡ false
+    → [] ≡ text_of filter head found
+no_text filter head found none = rw (none)

@@ -1,12 +1,12 @@
 -- The words of this crate and of those below, passed on from one place.
-pub use Rattle.cidr_filter.specs.Filters.{Filters, FiltersLine, FirstListed, IsListed, IsVerdict, IsVerdictOfAddresses, NoneListed, TellsBlock, TellsOf, addresses_in, behind_name, fresh, head_of, is_count, is_full, is_listed, is_of, is_of_family, is_refused, is_selected, is_silent, mark_of, name_head, number_head, of_family, shown, shown_of, sought_in, tally_with, text_of, texts_of}
+pub use Rattle.cidr_filter.specs.Filters.{Filters, FiltersLine, FirstListed, IsListed, IsVerdict, IsVerdictOfAddresses, NoneListed, TellsBlock, TellsOf, addresses_in, behind_name, fresh, head_of, is_count, is_full, is_listed, is_of, is_of_family, is_printed, is_refused, is_selected, is_silent, mark_of, name_head, number_head, of_family, shown, shown_of, sought_in, tally_with, text_of, texts_of}
 pub use Rattle.cidr_filter.specs.Logs.{FiltersLog, FiltersLogs, both, count_line, filter_for, is_enough, label_of, missing, nothing, outcome_of, status_by}
 pub use Rattle.cidr_filter.specs.Matcher.{HasAddress, HasBlocksOf, IsIn, IsLongestBlock, IsStored, IsToldBlock, OfForms, address_named, asked, covers_named, has_address, has_form, is_among, is_read_within, is_within, reads_networks}
 pub use Rattle.cidr_filter.specs.Options.{entries}
 pub use Rattle.cidr_filter.specs.Private.Copying.{HasOnly, IsSelectedByAddress, PrintsAsRead, copied}
 pub use Rattle.cidr_filter.specs.Private.Progress.{LineStops, PassesLine}
 pub use Rattle.cidr_filter.specs.Private.Reading.{HasBlocks, HasSets, ReadsAll}
-pub use Rattle.cidr_filter.specs.Reading.{HoldsRead, ReadsItems, StopsAtItems, question_of}
+pub use Rattle.cidr_filter.specs.Reading.{HoldsRead, ReadsItems, StopsAtItems, question_of, rules_of}
 pub use Rattle.cidr_filter.specs.Runs.{DoesRequest, EndsRequest, StopsAtLists, filter_of, is_named, is_stopped_by, most_of, shows_of}
 pub use Rattle.cidr_filter.specs.declared.filter.Filter.{Filter}
 pub use Rattle.cidr_filter.specs.declared.filter.OutputMode.{OutputMode}

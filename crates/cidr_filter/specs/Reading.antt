@@ -7,6 +7,7 @@ use Rattle.lists.specs.Refusals.{Refused, no_refusals}
 use Rattle.lists.specs.KnownLists.{KnownLists}
 use Rattle.lists.specs.Reading.{ReadsList, StopsAt, StopsAtText}
 use Rattle.lists.specs.declared.named.ReadFault.{ReadFault}
+use Rattle.lists.specs.declared.rules.Rules.{Rules}
 use Rattle.log_programs.specs.Rows as rows
 use Rattle.ipnetwork_family.specs.Network.{Network}
 use Rattle.ipnetwork_sets.specs.IpSets.{v4_then_v6}
@@ -68,9 +69,13 @@ StopsAtItems known number (item ∷ items) before fault refused =
     ⊎ ((between : ReadLists) × ReadsItem known number item before between × (between.is_out_of_memory ≡ false)
     × StopsAtItems known (number + 1) items between fault refused)
 
+-- the rules of the lists: with `--strict`, host bits are refused
+abbrev pub rules_of : List Item → Rules
+rules_of items = record { refuses_host_bits = is_given items own.strict }
+
 -- the lists of a command line were read, and memory did not run out
 pub record IsReadOf (known : KnownLists) (items : List Item) (read : ReadLists) : Type 0 where
-  pub lists : ReadsItems known 0 items (nothing_read no_refusals) read
+  pub lists : ReadsItems known 0 items (nothing_read (rules_of items) no_refusals) read
   pub memory : read.is_out_of_memory ≡ false
 
 -- what the options ask of the lists: the longest block that contains an address, whether they cover a network, or

@@ -18,7 +18,7 @@ use Rattle.options.specs.Values.{number_in}
 use Rattle.options.specs.declared.items.Item.{Item}
 use Rattle.options.specs.declared.table.Table.{Table}
 use Rattle.cidr_filter.specs.Logs.{FiltersLogs}
-use Rattle.cidr_filter.specs.Reading.{IsReadOf, StopsAtItems, HoldsRead, question_of}
+use Rattle.cidr_filter.specs.Reading.{IsReadOf, StopsAtItems, HoldsRead, question_of, rules_of}
 use Rattle.cidr_filter.specs.Options as own
 use Rattle.cidr_filter.specs.Options.{IsOptions}
 use Rattle.cidr_filter.specs.declared.filter.Family.{Family}
@@ -83,7 +83,8 @@ is_stopped_by items refused = was_refused refused && not (is_given items own.ski
 abbrev pub StopsAtLists : KnownLists → List Item → Type 0
 StopsAtLists known items =
     ((read : ReadLists) × IsReadOf known items read × (is_stopped_by items read.refused ≡ true))
-    ⊎ ((fault : ReadFault) × (refused : Refused) × StopsAtItems known 0 items (nothing_read no_refusals) fault refused)
+    ⊎ ((fault : ReadFault) × (refused : Refused)
+    × StopsAtItems known 0 items (nothing_read (rules_of items) no_refusals) fault refused)
 
 -- what was reported last is that memory ran out, of which nothing else can be known
 abbrev pub TellsMemory : {W E : Type 0} → Ending W E → Type 0

@@ -3,14 +3,14 @@ ghost use Rattle.std.specs.Prelude.{◌≡◌, false, OnOk, IfOk, IfErr};
 ghost use Rattle.ipnetwork_blocks.specs.Aggregate.{IsAggregate};
 ghost use Rattle.lists.specs.Lists.{nothing_read};
 ghost use Rattle.lists.specs.Refusals.{no_refusals};
-ghost use Rattle.cidr_filter.specs.Reading.{question_of, source_by, source_of, ReadsItem, ReadsItems, StopsAtItem, StopsAtItems, HoldsRead};
+ghost use Rattle.cidr_filter.specs.Reading.{question_of, rules_of, source_by, source_of, ReadsItem, ReadsItems, StopsAtItem, StopsAtItems, HoldsRead};
 ghost use Rattle.cidr_filter.specs.Private.Reading.{ReadsAll, HasSets, HasBlocks};
 
 use crate::matcher::{Matcher, Sets, Tables};
-use crate::rows::{LONGEST, NETWORKS, TEXT};
+use crate::rows::{LONGEST, NETWORKS, STRICT, TEXT};
 use ipnetwork::{Ipv4Network, Ipv6Network};
 use ipnetwork_sets::{AddressSet, IpAddressSet};
-use lists::{ListReader, OpenLists, ReadFault, Refusals, read_named, read_text};
+use lists::{ListReader, OpenLists, ReadFault, Refusals, Rules, read_named, read_text};
 use log_programs::rows::LIST;
 use options::given::is_given;
 use options::items::{Item, Text};
@@ -51,6 +51,15 @@ pub(crate) fn question_of(items: &[Item<'_>]) -> Question
     }
 }
 
+/// Returns the rules of the lists: with `--strict`, host bits are refused.
+fn rules_of(items: &[Item<'_>]) -> Rules
+    ensures { result ≡ rules_of items.now }
+{
+    Rules {
+        refuses_host_bits: is_given(items, STRICT),
+    }
+}
+
 /// Reads the lists that the options name, in their order. Returns their networks, or `AllocError`
 /// if memory runs out; the refused lines; and why a list was not read to the end, if one was not.
 pub(crate) fn read_listed<L: OpenLists>(
@@ -62,10 +71,10 @@ pub(crate) fn read_listed<L: OpenLists>(
     ensures read { OnOk result.2
         (ReadsAll (L.known lists.now) items.now question result.0 result.1) }
     ensures stopped { IfErr result.2
-        (λ fault. StopsAtItems (L.known lists.now) 0 items.now (nothing_read no_refusals) fault
-        result.1) }
+        (λ fault. StopsAtItems (L.known lists.now) 0 items.now
+        (nothing_read (rules_of items.now) no_refusals) fault result.1) }
 {
-    let mut reader = ListReader::new(alloc, Refusals::new());
+    let mut reader = ListReader::new(alloc, rules_of(items), Refusals::new());
     let end = read_lists(lists, items, &mut reader);
     let (listed, refusals) = listed_by(alloc, question, reader);
     (listed, refusals, end)

@@ -220,8 +220,8 @@ forms_said = refl
 pub usual_form : form_of (Exported Csv) (says.Flag 3 ∷ []) ≡ Exported Csv
 usual_form = refl
 
-pub shapes_said : map shape_of ((says.Flag 4 ∷ []) ∷ (says.Flag 4 ∷ says.Flag 5 ∷ []) ∷ (says.Flag 3 ∷ []) ∷ [])
-    ≡ shapes.Json ∷ shapes.StrictJson ∷ shapes.Lines ∷ []
+pub shapes_said : map shape_of ((says.Flag 4 ∷ []) ∷ (says.Flag 4 ∷ says.Flag 5 ∷ []) ∷ (says.Flag 3 ∷ [])
+    ∷ (says.Flag 5 ∷ []) ∷ []) ≡ shapes.Json ∷ shapes.StrictJson ∷ shapes.Lines ∷ shapes.StrictLines ∷ []
 shapes_said = refl
 
 -- a prefix length may have a `+` before it, and leading zeros

@@ -29,6 +29,13 @@ pub why_lines_are_refused :
 unfolding digits v6_of gap_below
 why_lines_are_refused = refl
 
+pub why_comments_are_refused :
+    map said_by (codes "::1; ::2" ∷ codes "::1 # ::2/129" ∷ codes "::1#;1::-2::" ∷ [])
+    ≡ Err (faults.Entry causes.Second) ∷ Ok (Some (Network (networks.V6 (record { address = 1; prefix = 128 }))))
+    ∷ Err (faults.Entry causes.Second) ∷ []
+unfolding digits v6_of gap_below
+why_comments_are_refused = refl
+
 pub why_ranges_are_refused :
     map said_by (codes "10.0.0.9-10.0.0.1" ∷ codes "10.0.0.1-::1" ∷ codes "10.0.0.1-" ∷ [])
     ≡ Err (faults.Entry causes.Range) ∷ Err (faults.Entry causes.Range)

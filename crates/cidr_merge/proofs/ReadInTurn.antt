@@ -1,5 +1,5 @@
 -- Lists that are read in turn.
-use Rattle.cidr_merge.proofs.Words.{◌≡◌, ◌<◌, ◌+◌, ◌++◌, ◌∷◌, [], ℕ, List, false, refl, sym, subst, arith, length, get_or, take, length-take, Result, Ok, Err, OnOk, String, string_bytes, IsAggregate, ReadLists, nothing_read, Refused, Source, ReadsOne, ReadsLists, ReadsSide, Sets}
+use Rattle.cidr_merge.proofs.Words.{◌≡◌, ◌<◌, ◌+◌, ◌++◌, ◌∷◌, [], ℕ, List, false, refl, sym, subst, arith, length, get_or, take, length-take, Result, Ok, Err, OnOk, String, string_bytes, IsAggregate, ReadLists, nothing_read, Refused, Source, ReadsOne, ReadsLists, ReadsSide, Sets, rules_of}
 use Rattle.cidr_merge.proofs.Places.{up_to_next}
 
 -- one more list was read
@@ -34,7 +34,7 @@ reads_on known names first place name before mid after l is h r =
 -- the sets of what was read
 pub side_ok : {Z T E : Type 0} (result : Result T E) (known : Source) (number : ℕ)
     (names : List (String Z)) (before after : Refused) (start read : ReadLists) (sets : Sets)
-    → start ≡ nothing_read before → OnOk result (ReadsLists known number names start read)
+    → start ≡ nothing_read (rules_of known.shape) before → OnOk result (ReadsLists known number names start read)
     → OnOk result (read.is_out_of_memory ≡ false) → IsAggregate 32 read.v4 sets.v4
     → IsAggregate 128 read.v6 sets.v6 → after ≡ read.refused
     → OnOk result (ReadsSide known number names before sets after)

@@ -1,5 +1,5 @@
 -- What a line says can be computed.
-use Rattle.cidr_merge.proofs.Words.{◌≡◌, ◌≢◌, ◌↔◌, ◌∙◌, ◌<◌, ◌≤◌, ℕ, Bool, true, false, List, [], ◌∷◌, length, refl, sym, ap, arith, inl, inr, nat_lt, nat_le, if◌then◌else◌, Option, None, Some, Result, Ok, Err, before_first, after_first, position_or_len, lt-ltb, ltb-true, le-leb, leb-true, ip_of, answer_from, NamesIp, Reads, AddrParseError, Ip, IpAddr, V4, V6, slashes, before_slash, CidrFault, ip_network_of, NamesIpNetwork, ReadsIpNetwork, IpNetwork, entry_text, is_dash, HasDash, IsEntryCause, IsPlainCause, IsRange, NamesEntry, ReadsEntry, trimmed, Entry, Range, EntryFault, address_or_prefix, as_said, entry_or_none, is_range, network_entry, network_fault, range_between, reading_of, plain_entry, said_by, some_entry, text_entry, told_entry}
+use Rattle.cidr_merge.proofs.Words.{◌≡◌, ◌≢◌, ◌↔◌, ◌∙◌, ◌<◌, ◌≤◌, ℕ, Bool, true, false, List, [], ◌∷◌, length, refl, sym, ap, subst, arith, inl, inr, nat_lt, nat_le, if◌then◌else◌, Option, None, Some, Result, Ok, Err, before_first, after_first, position_or_len, lt-ltb, ltb-true, le-leb, leb-true, ip_of, answer_from, NamesIp, Reads, AddrParseError, Ip, IpAddr, V4, V6, slashes, before_slash, CidrFault, ip_network_of, NamesIpNetwork, ReadsIpNetwork, IpNetwork, comment_text, entry_text, is_dash, is_ok, HasDash, IsEntryCause, IsPlainCause, IsRange, IsRefusedFor, NamesEntry, NamesNone, NamesSome, ReadsEntry, trimmed, Entry, Range, EntryFault, address_or_prefix, as_said, entry_or_none, is_range, network_entry, network_fault, range_between, reading_of, plain_entry, said_by, some_entry, text_entry, told_entry}
 use Rattle.lists.specs.declared.entry.Entry.TheVariants.{Network}
 use Rattle.lists.specs.declared.entry.EntryFault.TheVariants as causes
 use Rattle.lists.specs.declared.fault.LineFault.TheVariants as faults
@@ -10,6 +10,12 @@ not_true : (b : Bool) → ¬ (b ≡ true) → b ≡ false
 not_true true n = absurd (n refl)
 not_true false n = refl
 
+true_false : ¬ (true ≡ false)
+true_false e = cc
+
+ok_is : (a b : Entry) → ◌≡◌ {A = Result Entry EntryFault} (Ok a) (Ok b) → a ≡ b
+ok_is a b e = cc
+
 no_less : (a b : ℕ) → ¬ (a < b) → nat_lt a b ≡ false
 no_less a b n = not_true (nat_lt a b) (λ e. n (ltb-true a b e))
 
@@ -18,6 +24,12 @@ range_is (V4 first) (V4 last) l = le-leb first last l
 range_is (V4 first) (V6 last) l = absurd l
 range_is (V6 first) (V4 last) l = absurd l
 range_is (V6 first) (V6 last) l = le-leb first last l
+
+range_of : (first last : IpAddr) → is_range first last ≡ true → IsRange first last
+range_of (V4 first) (V4 last) e = leb-true first last e
+range_of (V4 first) (V6 last) e = absurd (let q = e in cc)
+range_of (V6 first) (V4 last) e = absurd (let q = e in cc)
+range_of (V6 first) (V6 last) e = leb-true first last e
 
 no_range : (first last : IpAddr) → ¬ (IsRange first last) → is_range first last ≡ false
 no_range (V4 first) (V4 last) n = not_true (nat_le first last) (λ e. n (leb-true first last e))
@@ -126,6 +138,51 @@ module _ (networks : (text : List ℕ) (result : Result IpNetwork CidrFault)
       ∙ ap (λ (b : Bool). if b then Ok (Range first last) else Err causes.Range)
       (no_range first last bad)
   plain_cause_is text (causes.Encoding encoding) h none = absurd h
+  plain_cause_is text causes.Second h none = absurd h
+  plain_cause_is text causes.HostBits h none = absurd h
+
+  -- what a text is computed to name it names
+  named_address : (text : List ℕ) (a : IpAddr) → ip_of text ≡ Some a → NamesIp text a
+  named_address text a e = (addresses text (Ok a)).1 (sym (ap (answer_from Ip) e))
+
+  named_range : (text : List ℕ) (entry : Entry) → HasDash text → (before after : Option IpAddr)
+      → ip_of (trimmed (before_first is_dash text)) ≡ before → ip_of (trimmed (after_first is_dash text)) ≡ after
+      → range_between before after ≡ Ok entry → NamesEntry text entry
+  named_range text entry dash None after b a e = absurd (let q = e in cc)
+  named_range text entry dash (Some first) None b a e = absurd (let q = e in cc)
+  named_range text entry dash (Some first) (Some last) b a e = by (is_range first last) refl where
+    by : (test : Bool) → is_range first last ≡ test → NamesEntry text entry
+    by true in_order =
+        let same : Ok (Range first last) ≡ Ok entry =
+        ap (λ (t : Bool). if t then Ok (Range first last) else Err causes.Range) (sym in_order) ∙ e in
+        subst (NamesEntry text) (ok_is (Range first last) entry same)
+        (dash, (named_address _ first b, named_address _ last a), range_of first last in_order)
+    by false out = absurd (let q = sym (ap (λ (t : Bool). if t then Ok (Range first last) else Err causes.Range) out) ∙ e in cc)
+
+  named_network : (text : List ℕ) (entry : Entry) → ¬ (HasDash text) → (read : Result IpNetwork CidrFault)
+      → ip_network_of text ≡ read → network_entry text read ≡ Ok entry → NamesEntry text entry
+  named_network text entry dash (Ok n) is e =
+      subst (NamesEntry text) (ok_is (Network n) entry e) (dash, (networks text (Ok n)).1 (sym is))
+  named_network text entry dash (Err cause) is e = absurd (let q = e in cc)
+
+  named_as_computed : (text : List ℕ) (entry : Entry) → plain_entry text ≡ Ok entry → NamesEntry text entry
+  named_as_computed text entry e = by (nat_lt (position_or_len is_dash text) (length text)) refl where
+    by : (dash : Bool) → nat_lt (position_or_len is_dash text) (length text) ≡ dash → NamesEntry text entry
+    by true is = let dash = ltb-true (position_or_len is_dash text) (length text) is in
+        named_range text entry dash _ _ refl refl (sym (with_dash text dash) ∙ e)
+    by false is =
+        let none : ¬ (HasDash text) = λ dash. true_false (sym (lt-ltb _ _ dash) ∙ is) in
+        named_network text entry none _ refl (sym (without_dash text none) ∙ e)
+
+  -- whether a comment names an entry
+  comment_names : (text : List ℕ) → NamesSome text → is_ok (plain_entry text) ≡ true
+  comment_names text (entry, named) = ap is_ok (plain_entry_is text entry named)
+
+  comment_names_none : (text : List ℕ) → NamesNone text → is_ok (plain_entry text) ≡ false
+  comment_names_none text none = by (plain_entry text) refl where
+    by : (read : Result Entry EntryFault) → plain_entry text ≡ read → is_ok (plain_entry text) ≡ false
+    by (Ok entry) e = absurd (none entry (named_as_computed text entry e))
+    by (Err fault) e = ap is_ok e
 
   entry_is : (text : List ℕ) (entry : Entry) → NamesEntry text entry → text_entry text ≡ Ok entry
   entry_is text entry named = ap (told_entry text) (plain_entry_is text entry named)
@@ -137,19 +194,33 @@ module _ (networks : (text : List ℕ) (result : Result IpNetwork CidrFault)
 
   -- ---- lines
 
-  some_text : (text : List ℕ) → text ≢ [] → entry_or_none text ≡ some_entry (text_entry text)
-  some_text [] some = absurd (some refl)
-  some_text (byte ∷ text) some = refl
+  some_text : (comment text : List ℕ) → text ≢ [] → entry_or_none comment text ≡ some_entry comment (text_entry text)
+  some_text comment [] some = absurd (some refl)
+  some_text comment (byte ∷ text) some = refl
+
+  module _ (line : List ℕ) (some : entry_text line ≢ []) where
+    entry_read : (entry : Entry) → NamesEntry (entry_text line) entry → reading_of line
+        ≡ (if is_ok (plain_entry (comment_text line)) then Err causes.Second else Ok (Some entry))
+    entry_read entry named =
+        some_text (comment_text line) (entry_text line) some
+        ∙ ap (some_entry (comment_text line)) (entry_is (entry_text line) entry named)
+
+    refused : (fault : EntryFault) → IsRefusedFor line fault → reading_of line ≡ Err fault
+    refused fault (inl (cause, none)) =
+        some_text (comment_text line) (entry_text line) some
+        ∙ ap (some_entry (comment_text line)) (fault_is (entry_text line) fault cause none)
+    refused fault (inr ((entry, named), second, is)) =
+        entry_read entry named
+        ∙ ap (λ (b : Bool). if b then Err causes.Second else Ok (Some entry)) (comment_names (comment_text line) second)
+        ∙ ap Err (sym is)
 
   pub read_as_computed : (line : List ℕ) (reading : Result (Option Entry) EntryFault) → ReadsEntry line reading
       → reading ≡ reading_of line
-  read_as_computed line (Ok None) h = sym (ap entry_or_none h)
+  read_as_computed line (Ok None) h = sym (ap (entry_or_none (comment_text line)) h)
   read_as_computed line (Ok (Some entry)) h =
-      sym (some_text (entry_text line) h.0
-      ∙ ap some_entry (entry_is (entry_text line) entry h.1))
-  read_as_computed line (Err fault) h =
-      sym (some_text (entry_text line) h.0
-      ∙ ap some_entry (fault_is (entry_text line) fault h.1 h.2))
+      sym (entry_read line h.0 entry h.1
+      ∙ ap (λ (b : Bool). if b then Err causes.Second else Ok (Some entry)) (comment_names_none (comment_text line) h.2))
+  read_as_computed line (Err fault) h = sym (refused line h.0 fault h.1)
 
 -- ---- what a line says
 

@@ -1,5 +1,5 @@
 -- How a run ends.
-use Rattle.cidr_merge.proofs.Words.{◌≡◌, ℕ, List, subst, inr, take, drop, Option, Result, Ok, Err, OnOk, IfErr, String, nothing_read, Refused, no_refusals, KnownLists, Table, command_of, sets_of, EndsAsked, EndsBy, IsOptions, Command, ReadsSide, ReadsSides, source, Stops, StopsInSides, Request, ReadFault, Sets, Ending}
+use Rattle.cidr_merge.proofs.Words.{◌≡◌, ℕ, List, subst, inr, take, drop, Option, Result, Ok, Err, OnOk, IfErr, String, nothing_read, Refused, no_refusals, KnownLists, Table, command_of, sets_of, EndsAsked, EndsBy, IsOptions, Command, ReadsSide, ReadsSides, rules_of, source, Stops, StopsInSides, Request, ReadFault, Sets, Ending}
 
 -- both sides were read, or the reading stopped at a list of the second side
 pub sides_read : {Z T : Type 0} (result : Result T ReadFault) (known : KnownLists)
@@ -7,7 +7,7 @@ pub sides_read : {Z T : Type 0} (result : Result T ReadFault) (known : KnownList
     → others ≡ drop request.middle words
     → ReadsSide (source known request.shape) 0 (take request.middle words) no_refusals first between
     → OnOk result (ReadsSide (source known request.shape) request.middle others between second refused)
-    → IfErr result (Stops (source known request.shape) request.middle others (nothing_read between))
+    → IfErr result (Stops (source known request.shape) request.middle others (nothing_read (rules_of request.shape) between))
     → OnOk result (ReadsSides known words request first second refused)
     × IfErr result (StopsInSides known words request)
 sides_read (Ok all) known words others request first second between refused o firsts seconds stops = (
@@ -25,7 +25,7 @@ sides_read (Err fault) known words others request first second between refused o
     first,
     between,
     firsts,
-    subst (λ names. Stops (source known request.shape) request.middle names (nothing_read between) fault) o stops,
+    subst (λ names. Stops (source known request.shape) request.middle names (nothing_read (rules_of request.shape) between) fault) o stops,
   ),
 )
 

@@ -1,5 +1,5 @@
 -- Where the reading of lists stops.
-use Rattle.cidr_merge.proofs.Words.{◌≡◌, ◌<◌, ◌+◌, ℕ, List, false, subst, arith, length, get_or, take, drop, length-take, Result, Ok, Err, IfErr, String, string_bytes, ReadLists, nothing_read, Refused, Source, StopsOne, ReadsLists, Stops, ReadFault}
+use Rattle.cidr_merge.proofs.Words.{◌≡◌, ◌<◌, ◌+◌, ℕ, List, false, subst, arith, length, get_or, take, drop, length-take, Result, Ok, Err, IfErr, String, string_bytes, ReadLists, nothing_read, Refused, Source, StopsOne, ReadsLists, Stops, ReadFault, rules_of}
 use Rattle.cidr_merge.proofs.Places.{cut_at}
 
 -- ---- lists in turn
@@ -27,8 +27,8 @@ stops_in known names number place name start mid fault refused l is reads memory
 -- ---- sides
 
 pub side_stopped : {Z T : Type 0} (result : Result T ReadFault) (known : Source) (number : ℕ) (names : List (String Z))
-    (before : Refused) (start : ReadLists) → start ≡ nothing_read before
-    → IfErr result (Stops known number names start) → IfErr result (Stops known number names (nothing_read before))
+    (before : Refused) (start : ReadLists) → start ≡ nothing_read (rules_of known.shape) before
+    → IfErr result (Stops known number names start) → IfErr result (Stops known number names (nothing_read (rules_of known.shape) before))
 side_stopped (Ok done) known number names before start s h = tt
 side_stopped (Err fault) known number names before start s h =
     subst (λ (l : ReadLists). Stops known number names l fault) s h

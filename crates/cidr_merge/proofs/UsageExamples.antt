@@ -33,7 +33,6 @@ pub wrong_options : {Z : Type 0} → Wrong Z (codes "union" ∷ codes "a" ∷ co
     × Wrong Z (codes "union" ∷ codes "--count" ∷ codes "--ranges" ∷ codes "a" ∷ [])
     × Wrong Z (codes "union" ∷ codes "--ranges" ∷ codes "--format=csv" ∷ codes "a" ∷ [])
     × Wrong Z (codes "union" ∷ codes "a" ∷ codes "--format" ∷ [])
-    × Wrong Z (codes "union" ∷ codes "a" ∷ codes "--strict" ∷ [])
     × Wrong Z (codes "split" ∷ codes "a" ∷ codes "--skip-bad" ∷ [])
     × Wrong Z (codes "split" ∷ codes "a" ∷ codes "--prefix=129" ∷ [])
     × Wrong Z (codes "reduce" ∷ codes "a" ∷ codes "--most=0" ∷ [])
@@ -48,7 +47,6 @@ wrong_options = (
   (λ _ o _ a _ b _ c _ d. simp (o, a, b, c, d)),
   (λ _ o _ a _ b _ c. simp (o, a, b, c)),
   (λ _ o _ a _ b _ c. simp (o, a, b, c)),
-  (λ _ o _ a _ b. simp (o, a, b)),
   (λ _ o _ a _ b. simp (o, a, b)),
   (λ _ o _ a _ b. simp (o, a, b)),
   (λ _ o _ a _ b. simp (o, a, b)),

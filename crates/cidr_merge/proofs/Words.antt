@@ -31,7 +31,7 @@ pub use Rattle.cidr_merge.specs.Repetitions.{found_among, further, other_of, ove
 pub use Rattle.cidr_merge.specs.RightWords.{are_wrong_files, are_wrong_sides, files_among, from_of, is_wrong, takes}
 pub use Rattle.cidr_merge.specs.Runs.{answer_status}
 pub use Rattle.cidr_merge.specs.SetNames.{Names, is_limit, is_set_name, line_of, usual_names}
-pub use Rattle.cidr_merge.specs.Shapes.{ReadsOne, Source, StopsBy, StopsOne, source}
+pub use Rattle.cidr_merge.specs.Shapes.{ReadsOne, Source, StopsBy, StopsOne, source, rules_of}
 pub use Rattle.cidr_merge.specs.Sides.{before_dashes, behind_dashes}
 pub use Rattle.cidr_merge.specs.SoughtLines.{has_other, line_is_other, line_sought, lists_sought}
 pub use Rattle.cidr_merge.specs.Spelling.{spelled_out}
@@ -93,9 +93,9 @@ pub use Rattle.lines.specs.declared.fault.RunFault.{RunFault}
 pub use Rattle.lists.proofs.Printed.{map_contains}
 pub use Rattle.lists.specs.Bytes.{BytesStop}
 pub use Rattle.lists.specs.Documents.{StopsAtDocument}
-pub use Rattle.lists.specs.Entries.{HasDash, IsEntryCause, IsPlainCause, IsRange, NamesEntry, ReadsEntry, entry_text, is_dash}
+pub use Rattle.lists.specs.Entries.{HasDash, IsEntryCause, IsPlainCause, IsRange, IsRefusedFor, NamesEntry, NamesNone, NamesSome, ReadsEntry, entry_text, is_dash}
 pub use Rattle.lists.specs.KnownLists.{KnownLists}
-pub use Rattle.lists.specs.Lines.{trimmed}
+pub use Rattle.lists.specs.Lines.{comment_text, trimmed}
 pub use Rattle.lists.specs.Lists.{ReadLists, nothing_read}
 pub use Rattle.lists.specs.Refusals.{Refused, no_refusals}
 pub use Rattle.lists.specs.declared.bytes.BytesFault.{BytesFault}
@@ -143,6 +143,7 @@ pub use Rattle.std.specs.List.Sorted.{IsNonDecreasing, IsPartitionPoint, IsParti
 pub use Rattle.std.specs.Option.{is_some, option_or}
 pub use Rattle.std.specs.Ordering.{bool_cmp, is_le, is_lt, nat_cmp, ordering_then}
 pub use Rattle.std.specs.Prelude.{Err, IfErr, IsFalse, IsTrue, MatchOption, None, Ok, OnErr, OnOk, Option, Result, Some, String, codes, if◌then◌else◌, is_err, nat_le, nat_lt, slice_index_or, ◌⊎◌}
+pub use Rattle.std.specs.Result.{is_ok}
 pub use Rattle.std.specs.Str.Lines.{lines, strip_carriage_return}
 pub use Rattle.std.specs.String.{string_bytes}
 pub use Rattle.std.specs.declared.cmp.Ordering.{Ordering}

@@ -3,12 +3,9 @@ use Rattle.std.specs.Prelude.{◌≡◌, ◌==◌, ◌&&◌, ℕ, Bool, false, n
 use Rattle.std.specs.Prelude.{Option, None, Some, Result, Ok, Err, if◌then◌else◌, codes, decimal}
 use Rattle.std.specs.Prelude.{String}
 use Rattle.std.specs.List.{flat_map}
-use Rattle.std.specs.Ordering.{is_le}
-use Rattle.ipnetwork.specs.IpNetworks.{address_of, ip_low}
-use Rattle.ipnetwork_addr.specs.Either.{ip_cmp}
 use Rattle.lists.specs.Faults.{line_fault_text}
+use Rattle.lists.specs.Rules as rules
 use Rattle.lists.specs.declared.entry.Entry.{Entry}
-use Rattle.lists.specs.declared.entry.Entry.TheVariants as entries
 use Rattle.lists.specs.declared.fault.LineFault.{LineFault}
 use Rattle.lists.specs.declared.fault.LineFault.TheVariants as faults
 use Rattle.program.specs.Escapes.{escaped}
@@ -35,11 +32,10 @@ refusal_text name number fault line =
     place_text name number ++ codes ": refused " ++ line_fault_text fault
     ++ separator (line_shown fault line) ++ escaped (line_shown fault line) ++ codes "\n"
 
--- whether an entry is a network with host bits: its address is after the first address of the block
+-- whether an entry is a network with host bits
 abbrev pub has_host_bits : Option Entry → Bool
 has_host_bits None = false
-has_host_bits (Some (entries.Network n)) = not (is_le (ip_cmp (address_of n) (ip_low n)))
-has_host_bits (Some (entries.Range first last)) = false
+has_host_bits (Some entry) = rules.has_host_bits entry
 
 -- the finding of a strict check for host bits: `FILE:LINE: host bits: TEXT`
 abbrev pub host_bits_text : List ℕ → ℕ → List ℕ → List ℕ

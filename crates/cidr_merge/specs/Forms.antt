@@ -35,7 +35,9 @@ form_of usual items =
 
 -- the format in which lists are written
 abbrev pub shape_of : List Item → Shape
-shape_of items = if is_given items own.json then if is_given items own.strict then shapes.StrictJson else shapes.Json
+shape_of items =
+    if is_given items own.json then if is_given items own.strict then shapes.StrictJson else shapes.Json
+    else if is_given items own.strict then shapes.StrictLines
     else shapes.Lines
 
 -- the prefix length that a text names: a number up to 128, which may have a `+` (byte 43) before it

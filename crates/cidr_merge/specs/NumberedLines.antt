@@ -2,6 +2,7 @@
 use Rattle.std.specs.Prelude.{ℕ, ◌+◌, Bool, false, List, [], ◌∷◌, ◌++◌, length, nat_lt, nat_le}
 use Rattle.std.specs.Prelude.{Option, None, Some, Result, Ok, Err, if◌then◌else◌}
 use Rattle.std.specs.List.{before_first, after_first, position_or_len}
+use Rattle.std.specs.Result.{is_ok}
 use Rattle.std.specs.Str.Lines.{lines}
 use Rattle.ipnetwork_addr.specs.Computed.Either.{ip_of}
 use Rattle.ipnetwork_addr.specs.declared.ip.IpAddr.{IpAddr}
@@ -12,7 +13,7 @@ use Rattle.ipnetwork.specs.Computed.IpNetworkText.{ip_network_of}
 use Rattle.ipnetwork.specs.declared.ip_network.IpNetwork.{IpNetwork}
 use Rattle.lists.specs.Encodings.{encoding_of}
 use Rattle.lists.specs.Entries.{entry_text, is_dash, told_cause}
-use Rattle.lists.specs.Lines.{trimmed}
+use Rattle.lists.specs.Lines.{comment_text, trimmed}
 use Rattle.lists.specs.declared.entry.Entry.{Entry}
 use Rattle.lists.specs.declared.entry.Entry.TheVariants.{Network, Range}
 use Rattle.lists.specs.declared.entry.EntryFault.{EntryFault}
@@ -84,17 +85,18 @@ told_entry text (Err cause) = Err (told_cause (encoding_of text) cause)
 abbrev pub text_entry : List ℕ → Result Entry EntryFault
 text_entry text = told_entry text (plain_entry text)
 
-abbrev pub some_entry : Result Entry EntryFault → Result (Option Entry) EntryFault
-some_entry (Ok entry) = Ok (Some entry)
-some_entry (Err fault) = Err fault
+-- the entry, unless the comment (its first words) names another
+abbrev pub some_entry : List ℕ → Result Entry EntryFault → Result (Option Entry) EntryFault
+some_entry comment (Ok entry) = if is_ok (plain_entry comment) then Err causes.Second else Ok (Some entry)
+some_entry comment (Err fault) = Err fault
 
-abbrev pub entry_or_none : List ℕ → Result (Option Entry) EntryFault
-entry_or_none [] = Ok None
-entry_or_none (byte ∷ text) = some_entry (text_entry (byte ∷ text))
+abbrev pub entry_or_none : List ℕ → List ℕ → Result (Option Entry) EntryFault
+entry_or_none comment [] = Ok None
+entry_or_none comment (byte ∷ text) = some_entry comment (text_entry (byte ∷ text))
 
 -- the result of reading a line: its entry, nothing, or why the line is refused
 abbrev pub reading_of : List ℕ → Result (Option Entry) EntryFault
-reading_of line = entry_or_none (entry_text line)
+reading_of line = entry_or_none (comment_text line) (entry_text line)
 
 -- what a line says: that result, unless the line is too long
 abbrev pub as_said : Result (Option Entry) EntryFault → Result (Option Entry) LineFault

@@ -7,7 +7,7 @@ use Rattle.lists.specs.Refusals.{Refused, no_refusals}
 use Rattle.lists.specs.declared.named.ReadFault.{ReadFault}
 use Rattle.program.specs.Reported.{was_refused}
 use Rattle.cidr_merge.specs.Reading.{ReadsSide}
-use Rattle.cidr_merge.specs.Shapes.{source}
+use Rattle.cidr_merge.specs.Shapes.{source, rules_of}
 use Rattle.cidr_merge.specs.Stopping.{Stops}
 use Rattle.cidr_merge.specs.Writing.{EndsSilently}
 use Rattle.cidr_merge.specs.declared.reading.Sets.{Sets}
@@ -18,7 +18,7 @@ use Rattle.cidr_merge.specs.declared.shapes.Shape.{Shape}
 abbrev pub EndsSide : {Z W : Type 0} → KnownLists → List (String Z) → Shape → (Sets → Bool → Type 0) → Written W
     → Written W → ℕ → Type 0
 EndsSide known words shape Ends old new status =
-    ((fault : ReadFault) × Stops (source known shape) 0 words (nothing_read no_refusals) fault
+    ((fault : ReadFault) × Stops (source known shape) 0 words (nothing_read (rules_of shape) no_refusals) fault
     × EndsSilently old new status)
     ⊎ ((sets : Sets) × (refused : Refused) × ReadsSide (source known shape) 0 words no_refusals sets refused
     × Ends sets (was_refused refused))

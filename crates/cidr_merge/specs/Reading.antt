@@ -5,7 +5,7 @@ use Rattle.ipnetwork_blocks.specs.Aggregate.{IsAggregate}
 use Rattle.lists.specs.Lists.{ReadLists, nothing_read}
 use Rattle.lists.specs.Refusals.{Refused, no_refusals}
 use Rattle.lists.specs.KnownLists.{KnownLists}
-use Rattle.cidr_merge.specs.Shapes.{Source, source, ReadsOne}
+use Rattle.cidr_merge.specs.Shapes.{Source, source, rules_of, ReadsOne}
 use Rattle.cidr_merge.specs.declared.command_line.Request.{Request}
 use Rattle.cidr_merge.specs.declared.reading.Sets.{Sets}
 
@@ -21,7 +21,7 @@ ReadsLists from number (name ∷ names) before after =
 pub record ReadsSide {Z : Type 0} (from : Source) (number : ℕ) (names : List (String Z))
     (before : Refused) (sets : Sets) (refused : Refused) : Type 0 where
   pub read : ReadLists
-  pub lists : ReadsLists from number names (nothing_read before) read
+  pub lists : ReadsLists from number names (nothing_read (rules_of from.shape) before) read
   pub memory : read.is_out_of_memory ≡ false
   pub v4 : IsAggregate 32 read.v4 sets.v4
   pub v6 : IsAggregate 128 read.v6 sets.v6

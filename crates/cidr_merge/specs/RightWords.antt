@@ -49,10 +49,6 @@ is_wrong task (says.File name) = false
 is_wrong task (says.Unknown word) = true
 is_wrong task (says.Lacks row) = true
 
--- whether `--strict` is given without the `--json` that it needs
-abbrev pub lacks_json : Task → List Item → Bool
-lacks_json task items = takes task own.json && is_given items own.strict && not (is_given items own.json)
-
 -- whether a number of networks is given
 abbrev pub has_count : List Item → Bool
 has_count items = (is_given items own.most || is_given items own.ipv4) || is_given items own.ipv6
@@ -105,8 +101,8 @@ are_misplaced items form =
 -- whether options do not go together
 abbrev pub do_clash : Table → Task → List Item → Bool
 do_clash table task items =
-    is_some (pair_fault items table.pairs.now) || (lacks_json task items || (cannot_print task (form_of Blocks items)
-    || (lacks_value task items || are_misplaced items (form_of Blocks items))))
+    is_some (pair_fault items table.pairs.now) || (cannot_print task (form_of Blocks items)
+    || (lacks_value task items || are_misplaced items (form_of Blocks items)))
 
 -- ---- lists
 

@@ -7,9 +7,10 @@ use Rattle.lists.specs.Lists.{ReadLists, TakesLines, at_list}
 use Rattle.lists.specs.Reading.{ReadsList, StopsAt, StopsAtText}
 use Rattle.lists.specs.Refusals.{Refused}
 use Rattle.lists.specs.declared.named.ReadFault.{ReadFault}
+use Rattle.lists.specs.declared.rules.Rules.{Rules}
 use Rattle.cidr_merge.specs.NamedLists.{text_in}
 use Rattle.cidr_merge.specs.declared.shapes.Shape.{Shape}
-use Rattle.cidr_merge.specs.declared.shapes.Shape.TheVariants.{Lines, Json, StrictJson}
+use Rattle.cidr_merge.specs.declared.shapes.Shape.TheVariants.{Lines, StrictLines, Json, StrictJson}
 
 -- what is known of the lists, and their format
 pub record Source : Type 1 where
@@ -19,10 +20,18 @@ pub record Source : Type 1 where
 abbrev pub source : KnownLists → Shape → Source
 source known shape = record { known = known; shape = shape }
 
+-- the rules of lists of this format
+abbrev pub rules_of : Shape → Rules
+rules_of Lines = record { refuses_host_bits = false }
+rules_of StrictLines = record { refuses_host_bits = true }
+rules_of Json = record { refuses_host_bits = false }
+rules_of StrictJson = record { refuses_host_bits = true }
+
 -- the list of this name and number is read in this format
 abbrev pub ReadsBy : Shape → KnownLists → ℕ → List ℕ → ReadLists → ReadLists → Type 0
 -- its lines are read
 ReadsBy Lines known number name before after = ReadsList known number name before after
+ReadsBy StrictLines known number name before after = ReadsList known number name before after
 -- the strings of its JSON document are read
 ReadsBy Json known number name before after = ReadsDocument known false number name before after
 ReadsBy StrictJson known number name before after =
@@ -39,6 +48,8 @@ ReadsOne source number name before after = ReadsAs (text_in name) source number 
 -- the reading stops at this list
 abbrev pub StopsBy : Shape → KnownLists → ℕ → List ℕ → ReadLists → ReadFault → Refused → Type 0
 StopsBy Lines known number name before fault refused =
+    StopsAt known number name before fault refused
+StopsBy StrictLines known number name before fault refused =
     StopsAt known number name before fault refused
 StopsBy Json known number name before fault refused =
     (after : ReadLists) × StopsAtDocument known false number name before fault after

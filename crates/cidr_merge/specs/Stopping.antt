@@ -5,7 +5,7 @@ use Rattle.std.specs.String.{string_bytes}
 use Rattle.lists.specs.Lists.{ReadLists, nothing_read}
 use Rattle.lists.specs.Refusals.{Refused, no_refusals}
 use Rattle.lists.specs.KnownLists.{KnownLists}
-use Rattle.cidr_merge.specs.Shapes.{Source, source, StopsOne}
+use Rattle.cidr_merge.specs.Shapes.{Source, source, rules_of, StopsOne}
 use Rattle.lists.specs.declared.named.ReadFault.{ReadFault}
 use Rattle.cidr_merge.specs.Reading.{ReadsLists, ReadsSide}
 use Rattle.cidr_merge.specs.declared.command_line.Request.{Request}
@@ -28,8 +28,9 @@ pub record Stops {Z : Type 0} (from : Source) (number : ℕ) (names : List (Stri
 -- the reading stops at a list of the first side, or, if those were read, at one of the second
 abbrev pub StopsInSides : {Z : Type 0} → KnownLists → List (String Z) → Request → ReadFault → Type 0
 StopsInSides known words request fault =
-    Stops (source known request.shape) 0 (take request.middle words) (nothing_read no_refusals) fault
+    Stops (source known request.shape) 0 (take request.middle words)
+    (nothing_read (rules_of request.shape) no_refusals) fault
     ⊎ ((first : Sets) × (between : Refused)
     × ReadsSide (source known request.shape) 0 (take request.middle words) no_refusals first between
     × Stops (source known request.shape) request.middle (drop request.middle words)
-    (nothing_read between) fault)
+    (nothing_read (rules_of request.shape) between) fault)

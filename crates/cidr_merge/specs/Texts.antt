@@ -32,7 +32,7 @@ FileStops known name (Open place cause) = known.may_open name false × known.may
 FileStops known name (Read place) = known.may_open name true × known.may_fail name
 -- it may have any length and any text
 FileStops known name (Length place) = ⊥
-FileStops known name (NotJson place line) = ⊥
+FileStops known name (NotJson place line encoding) = ⊥
 -- memory runs out for it
 FileStops known name OutOfMemory = Unit {0}
 

@@ -8,8 +8,6 @@ ghost use Rattle.cidr_merge.specs.Private.Reported.{TellsFound};
 use crate::entry_match::entry_of;
 use crate::findings::{either, tell_host_bits, tell_wrong};
 use crate::numbered_lines::{Line, NumberedLines};
-use crate::overlapping::is_up_to;
-use crate::placed::key_of;
 use crate::texts::WholeLists;
 use lines::output::Output;
 use lists::Entry;
@@ -72,12 +70,7 @@ fn has_host_bits(said: Option<Entry>) -> bool
     ensures { result ≡ has_host_bits said }
 {
     match said {
-        Some(Entry::Network(network)) => {
-            let address = key_of(&network.ip());
-            let first = key_of(&network.network());
-            !is_up_to(&address, &first)
-        }
-        Some(Entry::Range { .. }) => false,
+        Some(entry) => lists::has_host_bits(&entry),
         None => false,
     }
 }

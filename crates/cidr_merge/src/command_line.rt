@@ -301,13 +301,11 @@ pub(crate) fn form_of(usual: Form, items: &[Item<'_>]) -> Form
 fn shape_of(items: &[Item<'_>]) -> Shape
     ensures { result ≡ shape_of items.now }
 {
-    if !is_given(items, JSON) {
-        return Shape::Lines;
-    }
-    if is_given(items, STRICT) {
-        Shape::StrictJson
-    } else {
-        Shape::Json
+    match (is_given(items, JSON), is_given(items, STRICT)) {
+        (false, false) => Shape::Lines,
+        (false, true) => Shape::StrictLines,
+        (true, false) => Shape::Json,
+        (true, true) => Shape::StrictJson,
     }
 }
 

@@ -2,7 +2,7 @@
 ghost use Rattle.std.specs.Prelude.{◌≡◌, ◌≤◌, ◌+◌, length, map, not, is_some};
 ghost use Rattle.std.specs.List.{list_any};
 ghost use Rattle.std.specs.String.{string_bytes};
-ghost use Rattle.cidr_merge.specs.RightWords.{takes, is_value, is_wrong, lacks_json, lacks_value};
+ghost use Rattle.cidr_merge.specs.RightWords.{takes, is_value, is_wrong, lacks_value};
 ghost use Rattle.cidr_merge.specs.RightWords.{cannot_print, has_sets, has_table, has_limit};
 ghost use Rattle.cidr_merge.specs.RightWords.{has_count, has_lines, are_misplaced, do_clash};
 ghost use Rattle.cidr_merge.specs.RightWords.{are_wrong_sides, are_wrong_files, files_among};
@@ -12,8 +12,8 @@ use crate::bounds::bound_in;
 use crate::command_line::{Form, Operation, form_called, form_of, most_in, prefix_in};
 use crate::exports::Export;
 use crate::rows::{
-    AFTER, AT_LEAST, BEFORE, FORMAT, FROM, IPV4, IPV6, JSON, MAX_CHANGE, MAX_OTHERS, MAXELEM, MOST,
-    PREFIX, SET, STRICT, TABLE, TEXT, taken,
+    AFTER, AT_LEAST, BEFORE, FORMAT, FROM, IPV4, IPV6, MAX_CHANGE, MAX_OTHERS, MAXELEM, MOST,
+    PREFIX, SET, TABLE, TEXT, taken,
 };
 use crate::set_names::{is_limit, is_set_name};
 use crate::tasks::{ONE_SIDE, Task, is_two_sided, no_first, no_option};
@@ -126,13 +126,6 @@ fn items_fault<'a>(rows: &[Row], task: Task, items: &[Item<'a>]) -> Option<Fault
     None
 }
 
-// Whether `--strict` is given without the `--json` that it needs.
-fn lacks_json(task: Task, items: &[Item<'_>]) -> bool
-    ensures { result ≡ lacks_json task items.now }
-{
-    takes(task, JSON) && is_given(items, STRICT) && !is_given(items, JSON)
-}
-
 // Whether a number of networks is given.
 fn has_count(items: &[Item<'_>]) -> bool
     ensures { result ≡ has_count items.now }
@@ -235,9 +228,6 @@ fn together_fault<'a>(table: &Table<'_>, task: Task, items: &[Item<'a>]) -> Opti
 {
     if let Some(fault) = pair_fault(items, table.pairs) {
         return Some(fault);
-    }
-    if lacks_json(task, items) {
-        return Some(about(Subject::Option(STRICT), "only together with --json"));
     }
     let form = form_of(Form::Blocks, items);
     if cannot_print(task, form) {

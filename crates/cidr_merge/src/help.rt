@@ -24,18 +24,15 @@ Merges lists of IP networks, and prints the shortest list with exactly the resul
     --max-others N  allow each family N others, or N% of its addresses (100% as a rule), or any
     --at-least N   refuse a result of fewer networks; --allow-empty: print sets without elements
     --max-change N  refuse it if more than N addresses of a family went or came, or N% of the old
-    --skip-bad     report refused lines, and print the result for the others
-    --json         each FILE is JSON: use its strings that are entries; --strict refuses others
+    --skip-bad     report refused lines, use the others; --strict: refuse host bits (10.0.0.5/8) too
+    --json         each FILE is JSON: use its strings that are entries; --strict: refuse the others
     --quiet        as first word: no progress; --help prints this text, as -h; --version the version
 
 The FILE - is standard input. A line has a network (10.0.0.0/8, 10.0.0.1, 2001:db8::/32), a range (A
-- B) or nothing, and at most 1,024 bytes; # and ; begin a comment. Host bits are ignored. Results
-ascend, IPv4 first; differ puts < before what only the first side has, > before what only the second
-has. check prints each refused line after FILE:LINE: refused CAUSE, find after FILE:LINE: has
-ADDRESS. split leaves longer networks whole, and all of IPv4 if N is above 32. nft and ipset without
-a network are refused. Status: 0; 1 if the sides of differ are unequal, check or overlaps found
-something, or find nothing; 2 after wrong usage, a refused line or result, an unreadable file, a
-failed write, no memory; 3 if skipped.
+- B) or nothing; # and ; begin a comment. Host bits are ignored. Results ascend, IPv4 first; differ
+puts < before what only the first side has, > before what the second has. nft and ipset without a
+network are refused. Status: 0; 1 if the sides of differ are unequal, check or overlaps found
+something, or find nothing; 2 after a fault or a refused line or result; 3 if lines were skipped.
 Example: sort -u today.txt | cidr_merge differ --count yesterday.txt -- -
 ";
 

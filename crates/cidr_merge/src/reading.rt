@@ -3,12 +3,12 @@ ghost use Rattle.std.specs.Prelude.{◌≡◌, ◌+◌, ◌^◌, ◌<◌, false,
 ghost use Rattle.ipnetwork_blocks.specs.Aggregate.{IsAggregate};
 ghost use Rattle.lists.specs.Lists.{nothing_read};
 ghost use Rattle.cidr_merge.specs.Reading.{ReadsLists, ReadsSide};
-ghost use Rattle.cidr_merge.specs.Shapes.{source};
+ghost use Rattle.cidr_merge.specs.Shapes.{rules_of, source};
 ghost use Rattle.cidr_merge.specs.Stopping.{Stops};
 
 use crate::context::Context;
 use crate::help::PROGRAM;
-use crate::shapes::{Shape, read_one};
+use crate::shapes::{Shape, read_one, rules_of};
 use ipnetwork::{Ipv4Network, Ipv6Network};
 use ipnetwork_sets::AddressSet;
 use lines::output::Output;
@@ -38,9 +38,9 @@ pub(crate) fn read_side<L: OpenLists>(
     ensures read { OnOk result.2 (ReadsSide (source (L.known context.now.lists.now) shape) first
         names.now refusals result.0 result.1) }
     ensures stopped { IfErr result.2 (Stops (source (L.known context.now.lists.now) shape)
-        first names.now (nothing_read refusals)) }
+        first names.now (nothing_read (rules_of shape) refusals)) }
 {
-    let mut reader = ListReader::new(context.alloc, refusals);
+    let mut reader = ListReader::new(context.alloc, rules_of(shape), refusals);
     let end = read_all(context, shape, names, first, &mut reader);
     let (v4, v6, refusals) = into_sets(reader);
     (Sets { v4, v6 }, refusals, end)

@@ -1,20 +1,31 @@
 //! The formats of lists, and how a list is read.
 ghost use Rattle.std.specs.Prelude.{◌≡◌, false, OnOk, IfErr};
-ghost use Rattle.cidr_merge.specs.Shapes.{source, ReadsBy, ReadsOne, StopsBy, StopsOne};
+ghost use Rattle.cidr_merge.specs.Shapes.{rules_of, source, ReadsBy, ReadsOne, StopsBy, StopsOne};
 
 use crate::context::Context;
 use crate::named_lists::text_in;
-use lists::{ListReader, OpenLists, ReadFault, read_document, read_named, read_text};
+use lists::{ListReader, OpenLists, ReadFault, Rules, read_document, read_named, read_text};
 
 /// The format of lists.
 #[derive(Clone, Copy, Debug, PartialEq, Eq)]
 pub enum Shape {
     /// Text with one entry on a line.
     Lines,
-    /// JSON documents; strings that name no entry are ignored.
+    /// Such text; entries with host bits are refused.
+    StrictLines,
+    /// JSON documents; strings that name no entry are refused only if they look like one.
     Json,
-    /// JSON documents; strings that name no entry are refused.
+    /// JSON documents; strings that name no entry are refused, and entries with host bits.
     StrictJson,
+}
+
+/// Returns the rules of lists of this format.
+pub(crate) fn rules_of(shape: Shape) -> Rules
+    ensures { result ≡ rules_of shape }
+{
+    Rules {
+        refuses_host_bits: matches!(shape, Shape::StrictLines | Shape::StrictJson),
+    }
 }
 
 /// Reads the list of this name, which is the word at the index `place`, to the end.
@@ -53,7 +64,7 @@ fn read_file<L: OpenLists>(
 {
     let lists = context.lists;
     match shape {
-        Shape::Lines => read_named(lists, name, place, reader),
+        Shape::Lines | Shape::StrictLines => read_named(lists, name, place, reader),
         Shape::Json => read_document(context.alloc, lists, name, place, false, reader),
         Shape::StrictJson => read_document(context.alloc, lists, name, place, true, reader),
     }

@@ -40,8 +40,8 @@ pub fn following<'a>(line: &'a [u8], text: &[u8]) -> Option<&'a [u8]>
 // as the byte before the line.
 fn begins_name(line: &[u8], position: usize) -> bool
     requires { position < length line.now }
-    ensures { result ≡ begins_name (get_or (32 ∷ line.now) position 0)
-        (slice_index line.now position) }
+    ensures { result ≡
+        begins_name (get_or (32 ∷ line.now) position 0) (slice_index line.now position) }
 {
     position == 0 || !is_name_byte(line[position - 1]) || !is_name_byte(line[position])
 }

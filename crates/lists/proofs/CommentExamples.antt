@@ -1,6 +1,6 @@
 -- What each of the 256 bytes does at the beginning, in the middle and at the end of a line of a list. Each of these
 -- computes.
-use Rattle.lists.proofs.Words.{◌≡◌, ◌∷◌, ◌++◌, [], ℕ, List, refl, codes, bytes_eq, filter, range_with_len, entry_text, is_blank, begins_comment}
+use Rattle.lists.proofs.Words.{◌≡◌, ◌∷◌, ◌++◌, [], ℕ, List, refl, codes, bytes_eq, filter, range_with_len, comment_text, entry_text, is_blank, is_gap, begins_comment, map}
 
 abbrev bytes : List ℕ
 bytes = range_with_len 0 256
@@ -27,3 +27,12 @@ skipped_at_the_end = refl
 pub skipped_with_more : filter (λ byte. bytes_eq (entry_text (codes "::1" ++ byte ∷ codes "x")) (codes "::1")) bytes
     ≡ 35 ∷ 59 ∷ []
 skipped_with_more = refl
+
+-- a comment's first words: behind its marks and blanks, up to the next mark
+pub gaps : filter is_gap bytes ≡ 9 ∷ 32 ∷ 35 ∷ 59 ∷ []
+gaps = refl
+
+pub first_words_of_comments :
+    map comment_text (codes "::1; ::2 # x" ∷ codes "::1 #;\t::2" ∷ codes "::1 # a b" ∷ codes "::1" ∷ codes "::1;#" ∷ [])
+    ≡ codes "::2" ∷ codes "::2" ∷ codes "a b" ∷ [] ∷ [] ∷ []
+first_words_of_comments = refl

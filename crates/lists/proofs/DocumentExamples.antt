@@ -1,5 +1,5 @@
 -- The strings of documents, at values at which a misreading of the definitions would show.
-use Rattle.lists.proofs.Words.{◌≡◌, ◌<◌, ◌≤◌, ◌⊎◌, ℕ, Bool, true, List, [], ◌∷◌, refl, sym, inl, inr, length, arith, ◌∙◌, Some, None, codes, Data, null, boolean, number, unsigned, string, array, object, no_items, item, no_members, member, read, serde_json_on_literals, strings_of, TakesDocument, ReadsDocument, StopsAtDocument, KnownLists, ReadLists, ReadFault, Open, Length, NotJson, OutOfMemory}
+use Rattle.lists.proofs.Words.{◌≡◌, ◌<◌, ◌≤◌, ◌⊎◌, ℕ, Bool, true, List, [], ◌∷◌, refl, sym, inl, inr, length, arith, ◌∙◌, Option, Some, None, Encoding, codes, Data, null, boolean, number, unsigned, string, array, object, no_items, item, no_members, member, read, serde_json_on_literals, strings_of, TakesDocument, ReadsDocument, StopsAtDocument, KnownLists, ReadLists, ReadFault, Open, Length, NotJson, OutOfMemory}
 use Rattle.lists.specs.declared.named.ReadFault.TheVariants.{Read}
 
 -- ---- the strings of a value
@@ -60,7 +60,7 @@ module _ (known : KnownLists) (strict : Bool) (list : ℕ) (name : List ℕ) (be
   nothing_is_kept (Open place cause) h = inl h.3
   nothing_is_kept (Read place) h = inl h.3
   nothing_is_kept (Length place) h = inl h.3
-  nothing_is_kept (NotJson place line) h = inl h.3
+  nothing_is_kept (NotJson place line encoding) h = inl h.3
   nothing_is_kept OutOfMemory (inl (lacks, same)) = inl same
   nothing_is_kept OutOfMemory (inr (reads, out)) = inr out
 
@@ -69,9 +69,9 @@ module _ (known : KnownLists) (strict : Bool) (list : ℕ) (name : List ℕ) (be
       → known.bytes_of name ≡ Some input → length input ≤ 1073741824
   what_is_read_is_short input h e = let takes = h.1 input e in takes.1.0
 
-  pub what_is_none_is_short : (input : List ℕ) (place line : ℕ) → StopsAtDocument known strict list name before
-      (NotJson place line) after → known.bytes_of name ≡ Some input → length input ≤ 1073741824
-  what_is_none_is_short input place line h e = let none = h.2 input e in none.0
+  pub what_is_none_is_short : (input : List ℕ) (place line : ℕ) (encoding : Option Encoding) → StopsAtDocument known
+      strict list name before (NotJson place line encoding) after → known.bytes_of name ≡ Some input → length input ≤ 1073741824
+  what_is_none_is_short input place line encoding h e = let none = h.2 input e in none.0.0
 
   pub what_is_long_is_longer : (input : List ℕ) (place : ℕ) → StopsAtDocument known strict list name before
       (Length place) after → known.bytes_of name ≡ Some input → 1073741824 < length input

@@ -1,5 +1,5 @@
 -- What is taken of a document.
-use Rattle.lists.proofs.Words.{◌≡◌, ◌<◌, ℕ, Bool, true, false, List, [], ◌∷◌, ◌++◌, refl, subst, length, inl, inr, Result, Ok, Err, OnOk, IfErr, IsAllOf, BytesStop, IsNoDocument, TakesStrings, TakesDocument, ReadsDocument, StopsAtDocument, KnownLists, ReadLists, at_list, TakesBytes, FailsBytes, not_read, BytesFault, ReadFault}
+use Rattle.lists.proofs.Words.{◌≡◌, ◌<◌, ℕ, Bool, true, false, List, [], ◌∷◌, ◌++◌, refl, subst, length, inl, inr, Result, Ok, Err, OnOk, IfErr, IsAllOf, BytesStop, IsNoDocument, encoding_of, TakesStrings, TakesDocument, ReadsDocument, StopsAtDocument, KnownLists, ReadLists, at_list, TakesBytes, FailsBytes, not_read, BytesFault, ReadFault}
 use Rattle.lists.specs.declared.bytes.BytesFault.TheVariants as unread
 use Rattle.lists.specs.declared.named.ReadFault.TheVariants as faults
 
@@ -35,8 +35,13 @@ module _ (known : KnownLists) (strict : Bool) (name : List ℕ) (number : ℕ) (
     fails_by (faults.Open place cause) h = absurd h
     fails_by (faults.Read place) h = absurd h
     fails_by (faults.Length place) h = absurd h
-    fails_by (faults.NotJson place line) h =
-        (h.0, all.0, (λ input e. subst (λ (b : List ℕ). IsNoDocument b) (all.1 input e) h.1), h.2)
+    fails_by (faults.NotJson place line encoding) h = (
+      h.0,
+      all.0,
+      (λ input e. subst (λ (b : List ℕ). IsNoDocument b × (encoding ≡ encoding_of b)) (all.1 input e)
+          (h.1, h.2)),
+      h.3,
+    )
     fails_by faults.OutOfMemory (inl h) =
         inl ((all.0, λ input e. subst (λ (b : List ℕ). 0 < length b) (all.1 input e) h.0), h.1)
     fails_by faults.OutOfMemory (inr h) = inr (document_read true h, h.1)

@@ -51,17 +51,18 @@ gains_entry before after (entries.Range (V6 first) (V6 last)) good h (V6 a) =
 pub pushed : {A E : Type 0} (inside before after : ReadLists) (entry : Entry) (result : Result A E) → inside ≡ before
     → IsGoodEntry entry
     → OnOk result (AddsEntry inside.v4 inside.v6 entry after.v4 after.v6) → after.refused ≡ inside.refused
-    → after.list ≡ inside.list
+    → after.rules ≡ inside.rules → after.list ≡ inside.list
     → after.line ≡ inside.line → after.is_out_of_memory ≡ is_err result → TakesEntry before entry after
-pushed inside before after entry (Ok done) e good h refused list line memory =
+pushed inside before after entry (Ok done) e good h refused rules list line memory =
     subst (λ (b : ReadLists). TakesEntry b entry after) e
     (inl (record {
       networks = h;
       addresses = gains_entry inside after entry good h;
+      rules = rules;
       refused = refused;
       list = list;
       line = line;
       memory = memory;
     }))
-pushed inside before after entry (Err fault) e good h refused list line memory =
+pushed inside before after entry (Err fault) e good h refused rules list line memory =
     subst (λ (b : ReadLists). TakesEntry b entry after) e (inr (record { refused = refused; memory = memory }))

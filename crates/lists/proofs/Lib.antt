@@ -6,6 +6,7 @@ pub mod FirstLines
 pub mod Gained
 pub mod Handed
 pub mod Known
+pub mod LooksExamples
 pub mod NamedLists
 pub mod PartExamples
 pub mod Dashes
@@ -14,6 +15,7 @@ pub mod Printed
 pub mod ReadingExamples
 pub mod Readings
 pub mod Taken
+pub mod RulesExamples
 pub mod Trims
 pub mod WholeLists
 pub mod Words

@@ -1,7 +1,8 @@
 -- What the definitions promise, part by part, and values at which a misreading of them would show.
-use Rattle.lists.proofs.Words.{◌≡◌, ◌↔◌, ◌⊎◌, ◌≤◌, ◌<◌, ◌+◌, ◌-◌, ◌^◌, ◌++◌, ℕ, List, [], ◌∷◌, true, false, min, length, refl, Option, None, Some, Result, Ok, Err, Consumes, lines, IpAddr, V4, V6, InUnion, complete_part, IsBeginning, ReadsEntry, Entry, EntryFault, AddsEntry, ReadLists, at_next_line, refusing, HasAddress, Names, Gains, RunsOut, TakesEntry, TakesReading, TakesLine, Takes, TakesLines, Refused, with_refusal, TakesBefore, LineFault, Refusal}
+use Rattle.lists.proofs.Words.{◌≡◌, ◌↔◌, ◌⊎◌, ◌≤◌, ◌<◌, ◌+◌, ◌-◌, ◌^◌, ◌++◌, ℕ, List, [], ◌∷◌, true, false, min, length, refl, subst, MatchBool, refuses, Option, None, Some, Result, Ok, Err, Consumes, lines, IpAddr, V4, V6, InUnion, complete_part, IsBeginning, ReadsEntry, Entry, EntryFault, AddsEntry, ReadLists, at_next_line, refusing, HasAddress, Names, Gains, RunsOut, TakesEntry, TakesReading, TakesLine, Takes, TakesLines, Refused, with_refusal, TakesBefore, LineFault, Refusal}
 use Rattle.lines.specs.declared.fault.RunFault.TheVariants as runs
 use Rattle.lists.specs.declared.entry.Entry.TheVariants as entries
+use Rattle.lists.specs.declared.entry.EntryFault.TheVariants.{HostBits}
 use Rattle.lists.specs.declared.fault.LineFault.TheVariants as faults
 
 -- ---- a line
@@ -9,9 +10,9 @@ use Rattle.lists.specs.declared.fault.LineFault.TheVariants as faults
 pub what_an_entry_adds : (before after : ReadLists) (entry : Entry) → Gains before entry after
     → AddsEntry before.v4 before.v6 entry after.v4 after.v6
     × ((a : IpAddr) → HasAddress after a ↔ (HasAddress before a ⊎ Names entry a))
-    × (after.refused ≡ before.refused) × (after.list ≡ before.list) × (after.line ≡ before.line)
+    × (after.rules ≡ before.rules) × (after.refused ≡ before.refused) × (after.list ≡ before.list) × (after.line ≡ before.line)
     × (after.is_out_of_memory ≡ false)
-what_an_entry_adds before after entry h = (h.networks, h.addresses, h.refused, h.list, h.line, h.memory)
+what_an_entry_adds before after entry h = (h.networks, h.addresses, h.rules, h.refused, h.list, h.line, h.memory)
 
 pub what_no_memory_leaves : (before after : ReadLists) → RunsOut before after → (after.refused ≡ before.refused)
     × (after.is_out_of_memory ≡ true)
@@ -20,6 +21,16 @@ what_no_memory_leaves before after h = (h.refused, h.memory)
 pub an_entry_is_taken_or_memory_runs_out : (before after : ReadLists) (entry : Entry) → TakesEntry before entry after
     → Gains before entry after ⊎ RunsOut before after
 an_entry_is_taken_or_memory_runs_out before after entry h = h
+
+pub an_entry_that_the_rules_refuse : (before after : ReadLists) (entry : Entry) → refuses before.rules entry ≡ true
+    → TakesReading before (Ok (Some entry)) after → after ≡ refusing before (faults.Entry HostBits)
+an_entry_that_the_rules_refuse before after entry e h =
+    subst (λ b. MatchBool b (after ≡ refusing before (faults.Entry HostBits)) (TakesEntry before entry after)) e h
+
+pub an_entry_that_they_allow : (before after : ReadLists) (entry : Entry) → refuses before.rules entry ≡ false
+    → TakesReading before (Ok (Some entry)) after → TakesEntry before entry after
+an_entry_that_they_allow before after entry e h =
+    subst (λ b. MatchBool b (after ≡ refusing before (faults.Entry HostBits)) (TakesEntry before entry after)) e h
 
 pub a_line_without_an_entry : (before after : ReadLists) → TakesReading before (Ok None) after → after ≡ before
 a_line_without_an_entry before after h = h

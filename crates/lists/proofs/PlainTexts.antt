@@ -1,5 +1,5 @@
 -- The texts of addresses and of networks hold no `-`, no blank, and no mark of a comment.
-use Rattle.lists.proofs.Words.{◌≡◌, ◌≢◌, ◌||◌, ◌+◌, ◌-◌, ◌≤◌, ◌<◌, ◌⊎◌, ◌↔◌, inl, inr, ℕ, zero, suc, cond, not, Bool, true, false, List, [], ◌∷◌, ◌++◌, length, take, drop, get_or, refl, sym, ap, subst, ◌∙◌, arith, length-append, Option, None, Some, Ok, AllByRecursion, position_or_len, prefix_len, suffix_len, digits, AllDigits, ne_eqb, take_all, suffix_len_is, digit_from_value, IsAddressByte, Digit, UpperHex, LowerHex, Dot, Colon, NamesV4, v4_of, NamesV6, v6_of, gap_below, Network, slash, NamesNetwork, Alone, Suffixed, IsPrefixNumber, IsV4Suffix, IsV6Suffix, NamesIpNetwork, IpNetwork, is_blank, begins_comment, trimmed, without_end, is_dash, HasDash, NamesEntry, entry_text, ReadsEntry, NetworkTextsAreEntries}
+use Rattle.lists.proofs.Words.{◌≡◌, ◌≢◌, ◌||◌, ◌+◌, ◌-◌, ◌≤◌, ◌<◌, ◌⊎◌, ◌↔◌, inl, inr, ℕ, zero, suc, cond, not, Bool, true, false, List, [], ◌∷◌, ◌++◌, length, take, drop, get_or, refl, sym, ap, subst, ◌∙◌, arith, length-append, Option, None, Some, Ok, AllByRecursion, position_or_len, prefix_len, suffix_len, digits, AllDigits, ne_eqb, drop_all, take_all, suffix_len_is, digit_from_value, IsAddressByte, Digit, UpperHex, LowerHex, Dot, Colon, NamesV4, v4_of, NamesV6, v6_of, gap_below, Network, slash, NamesNetwork, Alone, Suffixed, IsPrefixNumber, IsV4Suffix, IsV6Suffix, NamesIpNetwork, IpNetwork, is_blank, is_gap, begins_comment, before_comment, comment_text, trimmed, without_end, without_front, is_dash, HasDash, NamesEntry, NamesNone, entry_text, ReadsEntry, NetworkTextsAreEntries}
 use Rattle.ipnetwork.specs.declared.ip_network.IpNetwork.TheVariants as networks
 use Rattle.lists.specs.declared.entry.Entry.TheVariants as entries
 
@@ -129,21 +129,32 @@ entry_text_is text h =
 plain_is_quiet : (text : List ℕ) → AllByRecursion IsPlain text → AllByRecursion IsQuiet text
 plain_is_quiet text all = all_as IsPlain IsQuiet (λ x h. h.1) text all
 
+no_comment : (text : List ℕ) → AllByRecursion IsQuiet text → comment_text text ≡ []
+no_comment text h =
+    ap (λ t. trimmed (before_comment (without_front is_gap t)))
+    (ap (λ n. drop n text) (absent begins_comment IsQuiet (λ x q. q.1) text h)
+    ∙ drop_all (length text) text (omega arith))
+
 -- ---- the laws
 
-network_entry : (text : List ℕ) (n : IpNetwork) → NamesIpNetwork text n → AllByRecursion IsPlain text × (text ≢ [])
-    → ReadsEntry text (Ok (Some (entries.Network n)))
-network_entry text n named (all, some) =
-    let no_dash : ¬ (HasDash text) =
-    λ dash. absurd (omega (arith, dash, absent is_dash IsPlain (λ x h. h.0) text all)) in
-    subst (λ t. (t ≢ []) × NamesEntry t (entries.Network n)) (sym (entry_text_is text (plain_is_quiet text all)))
-    (some, (no_dash, named))
+module _ (v4 : AreAddressTexts NamesV4) (v6 : AreAddressTexts NamesV6) where
+  plain_text : (text : List ℕ) (n : IpNetwork) → NamesIpNetwork text n → AllByRecursion IsPlain text × (text ≢ [])
+  plain_text text (networks.V4 n) named = network_plain 32 NamesV4 IsV4Suffix v4 (v4_suffix_plain v4) text n named
+  plain_text text (networks.V6 n) named = network_plain 128 NamesV6 IsV6Suffix v6 v6_suffix_plain text n named
 
-pub network_texts : AreAddressTexts NamesV4 → AreAddressTexts NamesV6 → NetworkTextsAreEntries
-network_texts v4 v6 text (networks.V4 n) named =
-    network_entry text (networks.V4 n) named (network_plain 32 NamesV4 IsV4Suffix v4 (v4_suffix_plain v4) text n named)
-network_texts v4 v6 text (networks.V6 n) named =
-    network_entry text (networks.V6 n) named (network_plain 128 NamesV6 IsV6Suffix v6 v6_suffix_plain text n named)
+  nothing_named : NamesNone []
+  nothing_named (entries.Network n) h = (plain_text [] n h.1).1 refl
+  nothing_named (entries.Range first last) h = omega (arith, h.0)
+
+  pub network_texts : NetworkTextsAreEntries
+  network_texts text n named =
+      let plain = plain_text text n named in
+      let quiet = plain_is_quiet text plain.0 in
+      let no_dash : ¬ (HasDash text) =
+      λ dash. absurd (omega (arith, dash, absent is_dash IsPlain (λ x h. h.0) text plain.0)) in
+      let named : (text ≢ []) × NamesEntry text (entries.Network n) = (plain.1, (no_dash, named)) in
+      let entry = subst (λ t. (t ≢ []) × NamesEntry t (entries.Network n)) (sym (entry_text_is text quiet)) named in
+      (entry.0, entry.1, subst NamesNone (sym (no_comment text quiet)) nothing_named)
 
 -- a text that a computed reading takes is not empty, where that takes no empty text
 none_empty : (Names : List ℕ → ℕ → Type 0) (value : List ℕ → Option ℕ)

@@ -1,5 +1,5 @@
--- Comments.
-use Rattle.lists.proofs.Words.{◌≡◌, ◌==◌, ◌||◌, ◌+◌, ℕ, suc, cond, not, Bool, true, false, List, [], ◌∷◌, length, take, arith, sym, ap, ◌∙◌, refl, before_first, position_or_len, eq-eqb, ne_eqb, take_all, position_or_len_is, IsAbsent, IsNext, begins_comment, before_comment}
+-- Comments, and what stands before and after a byte.
+use Rattle.lists.proofs.Words.{◌≡◌, ◌==◌, ◌||◌, ◌+◌, ℕ, suc, cond, not, Bool, true, false, List, [], ◌∷◌, length, take, drop, drop_all, arith, sym, ap, ◌∙◌, refl, after_first, before_first, position_or_len, eq-eqb, ne_eqb, take_all, position_or_len_is, IsAbsent, IsNext, begins_comment, before_comment}
 
 -- no byte of this value
 pub none_before : (byte : ℕ) (text : List ℕ) → IsAbsent byte text 0 (length text)
@@ -16,6 +16,20 @@ found_before byte text at next =
     let place = position_or_len_is (λ other. other == byte) text at 0 (omega (arith, next.within))
     (λ k below. ne_eqb _ _ (next.between k (omega arith) below)) (λ within. eq-eqb _ _ next.there) in
     sym (ap (λ n. take n text) place)
+
+pub none_after : (byte : ℕ) (text : List ℕ) → IsAbsent byte text 0 (length text)
+    → [] ≡ after_first (λ other. other == byte) text
+none_after byte text absent =
+    let place = position_or_len_is (λ other. other == byte) text (length text) 0 (omega arith)
+    (λ k below. ne_eqb _ _ (absent k (omega arith) below)) (λ past. absurd (omega (arith, past))) in
+    sym (ap (λ n. drop (n + 1) text) place ∙ drop_all (length text + 1) text (omega arith))
+
+pub found_after : (byte : ℕ) (text : List ℕ) (at : ℕ) → IsNext byte text 0 at
+    → drop (at + 1) text ≡ after_first (λ other. other == byte) text
+found_after byte text at next =
+    let place = position_or_len_is (λ other. other == byte) text at 0 (omega (arith, next.within))
+    (λ k below. ne_eqb _ _ (next.between k (omega arith) below)) (λ within. eq-eqb _ _ next.there) in
+    sym (ap (λ n. drop (n + 1) text) place)
 
 ends_here : (p : ℕ → Bool) (x : ℕ) (xs : List ℕ) → p x ≡ true → before_first p (x ∷ xs) ≡ []
 ends_here p x xs e = ap (λ v. take (cond (not v) (1 + position_or_len p xs) 0) (x ∷ xs)) e

@@ -37,11 +37,12 @@ pub use Rattle.lists.specs.Added.{AddsBlocks, AddsEntry}
 pub use Rattle.lists.specs.Bytes.{BytesStop, IsAllOf}
 pub use Rattle.lists.specs.Documents.{IsNoDocument, ReadsDocument, StopsAtDocument, TakesDocument, TakesStrings, strings_of, strings_of_items, strings_of_members}
 pub use Rattle.lists.specs.Encodings.{encoding_of}
-pub use Rattle.lists.specs.Entries.{HasDash, IsEntryCause, IsRange, NamesEntry, ReadsEntry, entry_text, is_dash, told_cause}
+pub use Rattle.lists.specs.Entries.{HasDash, IsEntryCause, IsRange, NamesEntry, NamesNone, ReadsEntry, entry_text, is_dash, told_cause}
 pub use Rattle.lists.specs.KnownLists.{KnownLists, nothing_known}
 pub use Rattle.lists.specs.Laws.{NetworkTextsAreEntries}
-pub use Rattle.lists.specs.Lines.{before_comment, begins_comment, is_blank, trimmed, without_end}
-pub use Rattle.lists.specs.Lists.{Gains, HasAddress, Names, ReadLists, RunsOut, Takes, TakesEntry, TakesLine, TakesLines, TakesReading, at_list, at_next_line, refusing}
+pub use Rattle.lists.specs.Lines.{before_comment, begins_comment, comment_text, is_blank, is_gap, trimmed, without_end, without_front}
+pub use Rattle.lists.specs.Looks.{has_gap, is_address_byte, is_slash, looks_like_address, looks_like_entry}
+pub use Rattle.lists.specs.Lists.{Gains, HasAddress, Names, ReadLists, RunsOut, Takes, TakesAllowed, TakesEntry, TakesLine, TakesLines, TakesReading, at_list, at_next_line, refusing}
 pub use Rattle.lists.specs.Private.Bytes.{ReadsAll, ReadsMore, StopsReading}
 pub use Rattle.lists.specs.Private.Documents.{FailsBytes, TakesBytes, not_read}
 pub use Rattle.lists.specs.Private.Kinds.{ReadsNetworkText, ReadsPlain, ReadsRange}
@@ -50,6 +51,7 @@ pub use Rattle.lists.specs.Private.Taking.{IsGoodEntry}
 pub use Rattle.lists.specs.Private.Waiting.{HasNoLine, TakesSome, TakesWhole}
 pub use Rattle.lists.specs.Reading.{FailsReading, ReadsFirst, ReadsList, StopsAt}
 pub use Rattle.lists.specs.Refusals.{Refused, with_refusal}
+pub use Rattle.lists.specs.Rules.{has_host_bits, refuses}
 pub use Rattle.lists.specs.Stopped.{TakesBefore}
 pub use Rattle.lists.specs.declared.bytes.BytesFault.{BytesFault}
 pub use Rattle.lists.specs.declared.encoding.Encoding.{Encoding}
@@ -71,13 +73,14 @@ pub use Rattle.std.proofs.KnownBytes.{Consumes-kept, Consumes-trans}
 pub use Rattle.std.proofs.lemmas.Bool.{eq-eqb, ltb-false, ltb-true, ne_eqb}
 pub use Rattle.std.proofs.lemmas.Iterator.Consumers.{YieldsList-end}
 pub use Rattle.std.proofs.lemmas.Iterator.Splits.{YieldsList-from_lines}
-pub use Rattle.std.proofs.lemmas.List.{take_all}
+pub use Rattle.std.proofs.lemmas.List.{drop_all, drop_more, take_all}
 pub use Rattle.std.proofs.lemmas.List.Sums.{position_or_len_is, suffix_len_is}
 pub use Rattle.std.proofs.lemmas.Option.{none-some}
 pub use Rattle.std.proofs.lemmas.Str.Parse.{digit_from_value}
 unfoldable pub use Rattle.std.specs.Fmt.{digits}
+pub use Rattle.std.specs.Char.{is_ascii_digit}
 pub use Rattle.std.specs.Io.KnownBytes.{Consumes, IsAtEnd, Keeps}
-pub use Rattle.std.specs.List.{AllByRecursion, Contains, before_first, position_or_len, prefix_len, range_with_len, suffix_len}
-pub use Rattle.std.specs.Prelude.{Err, IfErr, IfOk, IsTrue, None, Ok, OnOk, Option, Result, Some, bytes_eq, codes, filter, is_err, map, nat_lt}
+pub use Rattle.std.specs.List.{AllByRecursion, Contains, after_first, before_first, list_all, position_or_len, prefix_len, range_with_len, suffix_len}
+pub use Rattle.std.specs.Prelude.{Err, IfErr, IfOk, IsTrue, MatchBool, None, Ok, OnOk, Option, Result, Some, bytes_eq, codes, filter, is_err, map, nat_lt}
 pub use Rattle.std.specs.Str.Lines.{lines}
 pub use Rattle.std.specs.Str.Parse.{AllDigits}

@@ -1,14 +1,19 @@
 -- JSON documents that are read as lists: their strings, and what is taken of them.
-use Rattle.std.specs.Prelude.{◌≡◌, ◌⊎◌, ◌<◌, ◌≤◌, ℕ, Bool, true, false, IsUtf8, List, [], ◌∷◌, ◌++◌, length, None, Some}
+use Rattle.std.specs.Prelude.{◌≡◌, ◌⊎◌, ◌||◌, ◌<◌, ◌≤◌, ℕ, Bool, true, false, IsUtf8, List, [], ◌∷◌, ◌++◌, length}
+use Rattle.std.specs.Prelude.{Option, None, Some, if◌then◌else◌}
 use Rattle.std.specs.Prelude.{Result, Ok, Err}
 use Rattle.serde_json.specs.Data.{Data, null, boolean, number, string, array, object, Items, no_items, item, Members}
 use Rattle.serde_json.specs.Data.{no_members, member}
 use Rattle.serde_json.specs.Read.{read}
+use Rattle.lines.specs.Beginnings.{asked}
+use Rattle.lists.specs.Encodings.{encoding_of}
 use Rattle.lists.specs.Entries.{ReadsText}
 use Rattle.lists.specs.KnownLists.{KnownLists}
-use Rattle.lists.specs.Lists.{ReadLists, at_list, at_next_line, refusing, TakesEntry}
+use Rattle.lists.specs.Lists.{ReadLists, at_list, at_next_line, refusing, TakesAllowed}
+use Rattle.lists.specs.Looks.{looks_like_entry}
 use Rattle.lists.specs.declared.entry.Entry.{Entry}
 use Rattle.lists.specs.declared.entry.EntryFault.{EntryFault}
+use Rattle.lists.specs.declared.fault.LineFault.{LineFault}
 use Rattle.lists.specs.declared.fault.LineFault.TheVariants as faults
 use Rattle.lists.specs.declared.named.ReadFault.{ReadFault}
 use Rattle.lists.specs.declared.named.ReadFault.TheVariants.{Open, Read, Length, NotJson, OutOfMemory}
@@ -32,18 +37,25 @@ abbrev mutual
   strings_of_members no_members = []
   strings_of_members (member key value members) = strings_of value ++ strings_of_members members
 
--- what a string says is taken: its entry, or, if it names none, a refusal if the reading is strict and nothing if it is
--- not
-abbrev pub TakesText : Bool → ReadLists → Result Entry EntryFault → ReadLists → Type 0
-TakesText strict before (Ok entry) after = TakesEntry before entry after
-TakesText true before (Err fault) after = after ≡ refusing before (faults.Entry fault)
-TakesText false before (Err fault) after = after ≡ before
+-- a string is refused for this reason if the reading is strict or it looks like an entry, and else passed over
+abbrev pub passing : Bool → ReadLists → List ℕ → LineFault → ReadLists
+passing strict before text fault = if strict || looks_like_entry text then refusing before fault else before
+
+-- what a string says is taken: its entry, or, if it names none, a refusal or nothing
+abbrev pub TakesText : Bool → ReadLists → List ℕ → Result Entry EntryFault → ReadLists → Type 0
+TakesText strict before text (Ok entry) after = TakesAllowed before entry after
+TakesText strict before text (Err fault) after = after ≡ passing strict before text (faults.Entry fault)
+
+-- the next string is taken; one of more than 1,024 bytes (`None`) is too long
+abbrev pub TakesNext : Bool → ReadLists → List ℕ → Option (List ℕ) → ReadLists → Type 0
+TakesNext strict before text None after = after ≡ passing strict before text faults.Length
+TakesNext strict before text (Some short) after = (reading : Result Entry EntryFault) × ReadsText short reading
+    × TakesText strict before short reading after
 
 -- a string is taken and counted as a line is, unless memory has run out, after which nothing changes
 abbrev pub TakesString : Bool → ReadLists → List ℕ → ReadLists → Type 0
 TakesString strict before text after = ((before.is_out_of_memory ≡ true) × (after ≡ before))
-    ⊎ ((before.is_out_of_memory ≡ false) × ((reading : Result Entry EntryFault) × ReadsText text reading
-    × TakesText strict (at_next_line before) reading after))
+    ⊎ ((before.is_out_of_memory ≡ false) × TakesNext strict (at_next_line before) text (asked 1024 text) after)
 
 -- these strings are taken, one after another
 abbrev pub TakesStrings : Bool → ReadLists → List (List ℕ) → ReadLists → Type 0
@@ -90,10 +102,12 @@ StopsAtDocument known strict list name before (Read place) after = (place ≡ li
 StopsAtDocument known strict list name before (Length place) after =
     (place ≡ list) × known.may_open name true
     × ((input : List ℕ) → known.bytes_of name ≡ Some input → 1073741824 < length input) × (after ≡ before)
--- the document has at most 1,073,741,824 bytes, and they are not UTF-8, or not JSON of at most 127 levels
-StopsAtDocument known strict list name before (NotJson place line) after =
+-- the document has at most 1,073,741,824 bytes, and they are not UTF-8, or not JSON of at most 127 levels; the encoding
+-- is what they are instead of plain text
+StopsAtDocument known strict list name before (NotJson place line encoding) after =
     (place ≡ list) × known.may_open name true
-    × ((input : List ℕ) → known.bytes_of name ≡ Some input → IsNoDocument input) × (after ≡ before)
+    × ((input : List ℕ) → known.bytes_of name ≡ Some input → IsNoDocument input × (encoding ≡ encoding_of input))
+    × (after ≡ before)
 -- there was no memory for the document, or memory ran out for an entry of it
 StopsAtDocument known strict list name before OutOfMemory after =
     (LacksMemory known name × (after ≡ before))

@@ -8,7 +8,7 @@ use Rattle.ipnetwork_addr.specs.declared.ip.IpAddr.TheVariants.{V4, V6}
 use Rattle.ipnetwork.specs.IpNetworkText.{NamesIpNetwork, IsIpCause}
 use Rattle.ipnetwork_family.specs.declared.error.CidrFault.TheVariants as causes
 use Rattle.lists.specs.Encodings.{encoding_of}
-use Rattle.lists.specs.Lines.{before_comment, trimmed}
+use Rattle.lists.specs.Lines.{before_comment, comment_text, trimmed}
 use Rattle.lists.specs.declared.encoding.Encoding.{Encoding}
 use Rattle.lists.specs.declared.entry.Entry.{Entry}
 use Rattle.lists.specs.declared.entry.Entry.TheVariants as entries
@@ -59,8 +59,10 @@ IsPlainCause text faults.Prefix = ¬ (HasDash text) × IsIpCause text causes.Pre
 -- both ends of a text with a `-` are addresses, but of two families, or the last is before the first
 IsPlainCause text faults.Range = HasDash text
     × ((first : IpAddr) × (last : IpAddr) × NamesBoth text first last × ¬ (IsRange first last))
--- plain text has no other encoding
+-- plain text has no other encoding; a text has no second entry, and its host bits are kept
 IsPlainCause text (faults.Encoding encoding) = ⊥
+IsPlainCause text faults.Second = ⊥
+IsPlainCause text faults.HostBits = ⊥
 
 -- the fault that is reported about a text: its encoding, if it has one, and else the cause
 abbrev pub told_cause : Option Encoding → EntryFault → EntryFault
@@ -82,12 +84,24 @@ ReadsText text result =
 abbrev pub entry_text : List ℕ → List ℕ
 entry_text line = trimmed (before_comment line)
 
+-- the text names an entry; the text names none
+abbrev pub NamesSome : List ℕ → Type 0
+NamesSome text = (entry : Entry) × NamesEntry text entry
+
+abbrev pub NamesNone : List ℕ → Type 0
+NamesNone text = (entry : Entry) → ¬ (NamesEntry text entry)
+
+-- this is why the line is refused: its text names no entry, or it names one, and so does its comment
+abbrev pub IsRefusedFor : List ℕ → EntryFault → Type 0
+IsRefusedFor line fault = (IsEntryCause (entry_text line) fault × NamesNone (entry_text line))
+    ⊎ (NamesSome (entry_text line) × NamesSome (comment_text line) × (fault ≡ faults.Second))
+
 -- reading the line gives this result
 abbrev pub ReadsEntry : List ℕ → Result (Option Entry) EntryFault → Type 0
 -- there is no entry if its text is empty
 ReadsEntry line (Ok None) = entry_text line ≡ []
--- the entry is the one that its text names
+-- the entry is the one that its text names, and its comment names none
 ReadsEntry line (Ok (Some entry)) = (entry_text line ≢ []) × NamesEntry (entry_text line) entry
--- the fault is the reason why a text that is not empty names no entry
-ReadsEntry line (Err fault) = (entry_text line ≢ []) × IsEntryCause (entry_text line) fault
-    × ((entry : Entry) → ¬ (NamesEntry (entry_text line) entry))
+    × NamesNone (comment_text line)
+-- the fault is the reason why a line whose text is not empty is refused
+ReadsEntry line (Err fault) = (entry_text line ≢ []) × IsRefusedFor line fault

@@ -9,8 +9,10 @@ pub mod KnownLists
 pub mod Laws
 pub mod Lines
 pub mod Lists
+pub mod Looks
 pub mod Opening
 pub mod Private
 pub mod Reading
 pub mod Refusals
+pub mod Rules
 pub mod Stopped

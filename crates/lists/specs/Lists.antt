@@ -1,6 +1,6 @@
 -- What the lines of lists name, and what is taken of them.
 use Rattle.std.specs.Prelude.{◌≡◌, ℕ, ◌+◌, ◌-◌, ◌^◌, ◌↔◌, ◌⊎◌, Bool, true, false, List, [], ◌∷◌, Option, None}
-use Rattle.std.specs.Prelude.{Some, Result, Ok, Err, min}
+use Rattle.std.specs.Prelude.{Some, Result, Ok, Err, MatchBool, min}
 use Rattle.ipnetwork_addr.specs.declared.ip.IpAddr.{IpAddr}
 use Rattle.ipnetwork_addr.specs.declared.ip.IpAddr.TheVariants.{V4, V6}
 use Rattle.ipnetwork_family.specs.Network.{Network}
@@ -11,14 +11,18 @@ use Rattle.lists.specs.Entries.{IsRange, ReadsEntry}
 use Rattle.lists.specs.declared.entry.Entry.{Entry}
 use Rattle.lists.specs.declared.entry.Entry.TheVariants as entries
 use Rattle.lists.specs.declared.entry.EntryFault.{EntryFault}
+use Rattle.lists.specs.declared.entry.EntryFault.TheVariants.{HostBits}
 use Rattle.lists.specs.Added.{AddsEntry}
 use Rattle.lists.specs.Refusals.{Refused, with_refusal}
+use Rattle.lists.specs.Rules.{refuses}
 use Rattle.lists.specs.declared.fault.LineFault.{LineFault}
 use Rattle.lists.specs.declared.fault.LineFault.TheVariants as faults
+use Rattle.lists.specs.declared.rules.Rules.{Rules}
 
--- what was read of lists: the networks of each family, the refused lines, the number of the list and of the line that
+-- what was read of lists: the rules by which entries are refused, the networks of each family, the refused lines, the number of the list and of the line that
 -- was read last, and whether memory ran out for a network
 pub record ReadLists : Type 0 where
+  pub rules : Rules
   pub v4 : List Network
   pub v6 : List Network
   pub refused : Refused
@@ -27,8 +31,9 @@ pub record ReadLists : Type 0 where
   pub is_out_of_memory : Bool
 
 -- nothing was read yet, but these lines were refused before
-abbrev pub nothing_read : Refused → ReadLists
-nothing_read refused = record { v4 = []; v6 = []; refused = refused; list = 0; line = 0; is_out_of_memory = false }
+abbrev pub nothing_read : Rules → Refused → ReadLists
+nothing_read rules refused =
+    record { rules = rules; v4 = []; v6 = []; refused = refused; list = 0; line = 0; is_out_of_memory = false }
 
 -- the same reading at the beginning of the list of this number
 abbrev pub at_list : ReadLists → ℕ → ReadLists
@@ -55,6 +60,7 @@ Names (entries.Range first last) a = IsRange first a × IsRange a last
 pub record Gains (before : ReadLists) (entry : Entry) (after : ReadLists) : Type 0 where
   pub networks : AddsEntry before.v4 before.v6 entry after.v4 after.v6
   pub addresses : (a : IpAddr) → HasAddress after a ↔ (HasAddress before a ⊎ Names entry a)
+  pub rules : after.rules ≡ before.rules
   pub refused : after.refused ≡ before.refused
   pub list : after.list ≡ before.list
   pub line : after.line ≡ before.line
@@ -76,10 +82,15 @@ refusing lists fault = record lists {
       (record { list = lists.list; line = lists.line; fault = fault });
 }
 
+-- the entry is taken, or, if it has host bits and the rules refuse these, refused
+abbrev pub TakesAllowed : ReadLists → Entry → ReadLists → Type 0
+TakesAllowed before entry after = MatchBool (refuses before.rules entry)
+    (after ≡ refusing before (faults.Entry HostBits)) (TakesEntry before entry after)
+
 -- what a line says is taken: nothing changes if it says nothing, its entry is taken, or it is refused
 abbrev pub TakesReading : ReadLists → Result (Option Entry) EntryFault → ReadLists → Type 0
 TakesReading before (Ok None) after = after ≡ before
-TakesReading before (Ok (Some entry)) after = TakesEntry before entry after
+TakesReading before (Ok (Some entry)) after = TakesAllowed before entry after
 TakesReading before (Err fault) after = after ≡ refusing before (faults.Entry fault)
 
 -- the next line is taken, or, if it is given as too long, refused

@@ -37,7 +37,7 @@ StopsAt known number name before (Read place) refused = (place ≡ number) × Fa
     × (refused ≡ after.refused)
 -- these two faults do not occur: a list may have any length and any text
 StopsAt known number name before (Length place) refused = ⊥
-StopsAt known number name before (NotJson place line) refused = ⊥
+StopsAt known number name before (NotJson place line encoding) refused = ⊥
 -- memory ran out for an entry of the list
 StopsAt known number name before OutOfMemory refused = (after : ReadLists) × ReadsFirst known number name before after
     × (after.is_out_of_memory ≡ true) × (refused ≡ after.refused)
@@ -49,7 +49,7 @@ abbrev pub StopsAtText : ℕ → List ℕ → ReadLists → ReadFault → Refuse
 StopsAtText number text before (Open place cause) refused = ⊥
 StopsAtText number text before (Read place) refused = ⊥
 StopsAtText number text before (Length place) refused = ⊥
-StopsAtText number text before (NotJson place line) refused = ⊥
+StopsAtText number text before (NotJson place line encoding) refused = ⊥
 -- memory ran out for an entry of the text
 StopsAtText number text before OutOfMemory refused = (after : ReadLists)
     × TakesLines (at_list before number) (lines text) after × (after.is_out_of_memory ≡ true)

@@ -1,9 +1,9 @@
-//! Removes the comment of a line.
-ghost use Rattle.std.specs.Prelude.{◌≡◌, ◌==◌};
-ghost use Rattle.std.specs.List.{before_first};
-ghost use Rattle.lists.specs.Lines.{before_comment};
+//! The comment of a line.
+ghost use Rattle.std.specs.Prelude.{◌≡◌};
+ghost use Rattle.lists.specs.Lines.{before_comment, comment_text};
 
-use byte_search::find_from;
+use crate::cutting::before;
+use crate::trimming::{Blank, ByteKind, front_len, trim};
 
 /// Returns what stands before the first `#` or `;` of a line, or the whole line if it has neither.
 pub(crate) fn without_comment(line: &[u8]) -> &[u8]
@@ -12,12 +12,24 @@ pub(crate) fn without_comment(line: &[u8]) -> &[u8]
     before(before(line, b'#'), b';')
 }
 
-/// Returns what stands before the first byte of this value, or the whole text if it has none.
-fn before(text: &[u8], byte: u8) -> &[u8]
-    ensures { result.now ≡ before_first (λ other. other == byte) text.now }
+/// Returns the first words of the comment of a line: what follows its marks and blanks, up to the
+/// next mark, without the blanks around it.
+pub(crate) fn comment_text(line: &[u8]) -> &[u8]
+    ensures { result.now ≡ comment_text line.now }
 {
-    match find_from(text, 0, byte) {
-        Some(end) => &text[..end],
-        None => text,
+    let comment = &line[without_comment(line).len()..];
+    trim::<Blank>(without_comment(&comment[front_len::<Gap>(comment)..]))
+}
+
+/// Blanks, and the marks that begin a comment.
+struct Gap;
+
+impl ByteKind for Gap {
+    ghost use Rattle.lists.specs.Lines.{is_gap};
+
+    ghost is_one = { is_gap };
+
+    fn has(byte: u8) -> bool {
+        byte == b' ' || byte == b'\t' || byte == b'#' || byte == b';'
     }
 }

@@ -5,6 +5,7 @@ ghost use Rattle.lists.specs.Lists.{at_list};
 ghost use Rattle.lists.specs.Private.Documents.{TakesBytes, FailsBytes, not_read};
 
 use crate::bytes::{BytesFault, read_bytes};
+use crate::encoding::encoding_of;
 use crate::list_reader::ListReader;
 use crate::named::ReadFault;
 use crate::open_lists::OpenLists;
@@ -26,7 +27,8 @@ pub const DOCUMENT_MAX: usize = 1_073_741_824;
 /// at any depth, as an element of an array or as a value of an object; keys are not looked at. If
 /// an object has a key more than once, the last value counts.
 ///
-/// Any other string is skipped, or refused if the reading is strict. For refusals, strings are
+/// Any other string is refused if it looks like an entry (`looks_like_entry`) or the reading is
+/// strict, and else skipped; one of more than 1,024 bytes is no entry. For refusals, strings are
 /// numbered as lines are, in the order of `Value`, which sorts the keys of an object.
 ///
 /// An error is returned if the document cannot be opened, a read fails, it has more than
@@ -37,7 +39,7 @@ pub const DOCUMENT_MAX: usize = 1_073_741_824;
 /// use lists::{OpenFault, ReadFault, read_document};
 ///
 /// let system = program::system::System::new(&rt);
-/// let mut reader = lists::ListReader::new(rt.alloc(), lists::Refusals::new());
+/// let mut reader = lists::ListReader::new(rt.alloc(), lists::Rules::lenient(), lists::Refusals::new());
 /// let fault = ReadFault::Open(1, OpenFault::Missing);
 /// let read = read_document(rt.alloc(), &system, "no such file", 1, false, &mut reader);
 /// assert_eq!(rt; read, Err(fault));
@@ -80,7 +82,10 @@ fn take_document(
     let value = match Value::from_slice(alloc, bytes) {
         Ok(value) => value,
         Err(error) if error.is_memory() => return Err(ReadFault::OutOfMemory),
-        Err(error) => return Err(ReadFault::NotJson(place, error.line() as u64)),
+        Err(error) => {
+            let line = error.line() as u64;
+            return Err(ReadFault::NotJson(place, line, encoding_of(bytes)));
+        }
     };
     reader.begin(place);
     take_value(reader, &value, is_strict);

@@ -7,7 +7,7 @@ use crate::EntryFault;
 /// Why a line of a list is refused.
 ///
 /// ```
-/// let mut lists = ListReader::new(rt.alloc(), Refusals::new());
+/// let mut lists = ListReader::new(rt.alloc(), Rules::lenient(), Refusals::new());
 /// read_list(&mut lists, 1, &mut lines::watched::Watched::new(b"10.0.0.0/33".as_slice()))?;
 /// let (_, _, refusals) = lists.into_networks();
 /// assert_eq!(rt; refusals.kept()[0].fault, LineFault::Entry(EntryFault::Prefix));

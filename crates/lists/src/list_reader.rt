@@ -1,15 +1,19 @@
 //! Collects what is read of lists.
-ghost use Rattle.std.specs.Prelude.{◌≡◌, None, OnOk, Some};
-ghost use Rattle.lists.specs.Entries.{IsRange};
-ghost use Rattle.lists.specs.Lists.{nothing_read, at_list, at_next_line, refusing, TakesEntry, Takes};
-ghost use Rattle.lists.specs.Documents.{TakesString};
+ghost use Rattle.std.specs.Prelude.{◌≡◌, None, OnOk, Result, Some};
+ghost use Rattle.lists.specs.Entries.{IsRange, ReadsText};
+ghost use Rattle.lists.specs.Lists.{nothing_read, at_list, at_next_line, refusing, Takes};
+ghost use Rattle.lists.specs.Lists.{TakesAllowed, TakesEntry};
+ghost use Rattle.lists.specs.Documents.{passing, TakesString, TakesText};
 ghost use Rattle.lists.specs.Added.{AddsNetwork, AddsRange, AddsEntry};
 ghost use Rattle.lists.specs.Private.Taking.{IsGoodEntry};
 
-use crate::entry::{Entry, read_entry, read_text};
+use crate::entry::{Entry, EntryFault, read_entry, read_text};
 use crate::fault::LineFault;
+use crate::looks::looks_like_entry;
 use crate::networks::Networks;
+use crate::read::LINE_MAX;
 use crate::refusals::{Refusal, Refusals};
+use crate::rules::Rules;
 use ipnetwork::{IpAddr, IpNetwork, Ipv4Network, Ipv6Network};
 use std::alloc::{AllocError, Global};
 use std::marker::Model;
@@ -21,7 +25,7 @@ use std::marker::Model;
 /// nothing more is read.
 ///
 /// ```
-/// let mut lists = ListReader::new(rt.alloc(), Refusals::new());
+/// let mut lists = ListReader::new(rt.alloc(), Rules::lenient(), Refusals::new());
 /// read_list(&mut lists, 1, &mut lines::watched::Watched::new(b"10.0.0.0/9\n::1".as_slice()))?;
 /// read_list(&mut lists, 2, &mut lines::watched::Watched::new(b"10.128.0.0/9".as_slice()))?;
 /// let (v4, v6, _) = lists.into_networks();
@@ -32,6 +36,7 @@ use std::marker::Model;
 pub struct ListReader {
     v4: Networks<Ipv4Network>,
     v6: Networks<Ipv6Network>,
+    rules: Rules,
     refusals: Refusals,
     list: usize,
     line: u64,
@@ -45,6 +50,7 @@ impl Model for ListReader {
     ghost Value = { ReadLists };
 
     ghost view = { λ r. record {
+      rules = r.rules;
       v4 = r.v4;
       v6 = r.v6;
       refused = r.refusals;
@@ -55,20 +61,21 @@ impl Model for ListReader {
 }
 
 impl ListReader {
-    /// Creates a reader that has read no list yet. `refusals` holds the lines that were refused
-    /// before.
+    /// Creates a reader that has read no list yet, and refuses entries by these rules. `refusals`
+    /// holds the lines that were refused before.
     ///
     /// ```
-    /// let lists = ListReader::new(rt.alloc(), Refusals::new());
+    /// let lists = ListReader::new(rt.alloc(), Rules::lenient(), Refusals::new());
     /// let (v4, v6, refusals) = lists.into_networks();
     /// assert!(rt; v4.is_empty() && v6.is_empty() && refusals.is_empty());
     /// ```
-    pub fn new(alloc: Global, refusals: Refusals) -> ListReader
-        ensures { result ≡ nothing_read refusals }
+    pub fn new(alloc: Global, rules: Rules, refusals: Refusals) -> ListReader
+        ensures { result ≡ nothing_read rules refusals }
     {
         ListReader {
             v4: Networks::new(alloc),
             v6: Networks::new(alloc),
+            rules,
             refusals,
             list: 0,
             line: 0,
@@ -87,7 +94,7 @@ impl ListReader {
     /// Whether memory ran out for a network.
     ///
     /// ```
-    /// let mut lists = ListReader::new(rt.alloc(), Refusals::new());
+    /// let mut lists = ListReader::new(rt.alloc(), Rules::lenient(), Refusals::new());
     /// read_list(&mut lists, 1, &mut lines::watched::Watched::new(b"10.0.0.0/8".as_slice()))?;
     /// assert!(rt; !lists.is_out_of_memory());
     /// ```
@@ -103,7 +110,7 @@ impl ListReader {
     /// A range is returned as the fewest blocks that have its addresses.
     ///
     /// ```
-    /// let mut lists = ListReader::new(rt.alloc(), Refusals::new());
+    /// let mut lists = ListReader::new(rt.alloc(), Rules::lenient(), Refusals::new());
     /// let list = b"10.0.0.0/8\n192.0.2.7 - 192.0.2.8\n10.1.0.0/16".as_slice();
     /// read_list(&mut lists, 1, &mut lines::watched::Watched::new(list))?;
     /// let (v4, _, _) = lists.into_networks();
@@ -128,8 +135,8 @@ impl ListReader {
         self.next_line();
         match read_entry(line) {
             Ok(None) => {}
-            Ok(Some(entry)) => self.take(entry),
-            Err(fault) => self.refuse(LineFault::Entry(fault)),
+            Ok(Some(entry)) => self.take_allowed(entry, line),
+            Err(fault) => self.refuse(LineFault::Entry(fault), line),
         }
     }
 
@@ -141,11 +148,11 @@ impl ListReader {
             return;
         }
         self.next_line();
-        self.refuse(LineFault::Length);
+        self.refuse(LineFault::Length, &[]);
     }
 
     /// Takes a string of a document, unless memory has run out. A string that names no entry is
-    /// refused if the reading is strict.
+    /// refused if the reading is strict or it looks like an entry.
     pub(crate) fn take_string(&mut self, text: &[u8], is_strict: bool)
         ensures { TakesString is_strict self.old text.now self.new }
     {
@@ -153,10 +160,30 @@ impl ListReader {
             return;
         }
         self.next_line();
+        if text.len() > LINE_MAX {
+            self.pass(LineFault::Length, text, is_strict);
+        } else {
+            self.take_text(text, is_strict);
+        }
+    }
+
+    // Takes a string of at most 1,024 bytes.
+    fn take_text(&mut self, text: &[u8], is_strict: bool)
+        ensures { (reading : Result Entry EntryFault) × ReadsText text.now reading
+            × TakesText is_strict self.old text.now reading self.new }
+    {
         match read_text(text) {
-            Ok(entry) => self.take(entry),
-            Err(fault) if is_strict => self.refuse(LineFault::Entry(fault)),
-            Err(_) => {}
+            Ok(entry) => self.take_allowed(entry, text),
+            Err(fault) => self.pass(LineFault::Entry(fault), text, is_strict),
+        }
+    }
+
+    // Refuses a string if the reading is strict or it looks like an entry.
+    fn pass(&mut self, fault: LineFault, text: &[u8], is_strict: bool)
+        ensures { self.new ≡ passing is_strict self.old text.now fault }
+    {
+        if is_strict || looks_like_entry(text) {
+            self.refuse(fault, text);
         }
     }
 
@@ -167,15 +194,28 @@ impl ListReader {
         self.line = self.line.saturating_add(1);
     }
 
-    // Notes that the current line is refused.
-    fn refuse(&mut self, fault: LineFault)
+    // Notes that the current line, which has this text, is refused.
+    fn refuse(&mut self, fault: LineFault, text: &[u8])
         ensures { self.new ≡ refusing self.old fault }
     {
-        self.refusals.add(Refusal {
+        let refusal = Refusal {
             list: self.list,
             line: self.line,
             fault,
-        });
+        };
+        self.refusals.add(refusal, text);
+    }
+
+    // Takes the entry of a text, unless it is refused for its host bits.
+    fn take_allowed(&mut self, entry: Entry, text: &[u8])
+        requires { IsGoodEntry entry }
+        ensures { TakesAllowed self.old entry self.new }
+    {
+        if self.rules.refuses(&entry) {
+            self.refuse(LineFault::Entry(EntryFault::HostBits), text);
+        } else {
+            self.take(entry);
+        }
     }
 
     // Takes an entry, or notes that memory ran out for it.

@@ -5,6 +5,7 @@ ghost use Rattle.lists.specs.Lists.{at_list, TakesLines};
 ghost use Rattle.lists.specs.Private.Readings.{end_of};
 ghost use Rattle.lists.specs.Reading.{ReadsList, StopsAt, StopsAtText};
 
+use crate::encoding::Encoding;
 use crate::list_reader::ListReader;
 use crate::open_lists::OpenLists;
 use crate::opening::{OpenFault, open_list};
@@ -26,8 +27,8 @@ pub enum ReadFault {
     /// The document that the word at this index names has more than 1,073,741,824 bytes.
     Length(usize),
     /// The document that the word at this index names is not JSON or has more than 127 levels: the
-    /// index of the word, and the line.
-    NotJson(usize, u64),
+    /// index of the word, the line, and what the document is if it is not plain text.
+    NotJson(usize, u64, Option<Encoding>),
     /// Memory ran out.
     OutOfMemory,
 }
@@ -43,7 +44,7 @@ pub enum ReadFault {
 /// use lists::{OpenFault, ReadFault, read_named};
 ///
 /// let system = program::system::System::new(&rt);
-/// let mut reader = lists::ListReader::new(rt.alloc(), lists::Refusals::new());
+/// let mut reader = lists::ListReader::new(rt.alloc(), lists::Rules::lenient(), lists::Refusals::new());
 /// let fault = ReadFault::Open(1, OpenFault::Missing);
 /// assert_eq!(rt; read_named(&system, "no such file", 1, &mut reader), Err(fault));
 /// ```
@@ -73,7 +74,7 @@ pub fn read_named<L: OpenLists>(
 /// The only error is that memory ran out.
 ///
 /// ```
-/// let mut reader = lists::ListReader::new(rt.alloc(), lists::Refusals::new());
+/// let mut reader = lists::ListReader::new(rt.alloc(), lists::Rules::lenient(), lists::Refusals::new());
 /// assert_eq!(rt; lists::read_text("10.0.0.0/8", 1, &mut reader), Ok(()));
 /// let (v4, _, _) = reader.into_networks();
 /// assert_eq!(rt; v4.len(), 1);

@@ -19,7 +19,7 @@ use std::io::Read;
 ///
 /// ```
 /// let line = [b'#'].repeat(rt.alloc(), LINE_MAX + 1)?;
-/// let mut lists = ListReader::new(rt.alloc(), Refusals::new());
+/// let mut lists = ListReader::new(rt.alloc(), Rules::lenient(), Refusals::new());
 /// read_list(&mut lists, 1, &mut lines::watched::Watched::new(line.as_slice()))?;
 /// assert_eq!(rt; lists.into_networks().2.kept()[0].fault, LineFault::Length);
 /// ```
@@ -36,7 +36,7 @@ const BUFFER_MAX: usize = 65536;
 /// bytes. Memory is allocated only for what the list names, unless the device allocates.
 ///
 /// ```
-/// let mut lists = ListReader::new(rt.alloc(), Refusals::new());
+/// let mut lists = ListReader::new(rt.alloc(), Rules::lenient(), Refusals::new());
 /// let list = b"# private\n10.0.0.0/8\n10.0.0.0/33\n".as_slice();
 /// read_list(&mut lists, 1, &mut lines::watched::Watched::new(list))?;
 /// let (v4, _, refusals) = lists.into_networks();

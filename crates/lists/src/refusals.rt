@@ -2,6 +2,7 @@
 ghost use Rattle.std.specs.Prelude.{◌≡◌, ◌==◌, length};
 ghost use Rattle.lists.specs.Refusals.{no_refusals, with_refusal};
 
+use crate::excerpt::Excerpt;
 use crate::fault::LineFault;
 use std::marker::Model;
 
@@ -9,7 +10,7 @@ use std::marker::Model;
 ///
 /// ```
 /// let list = b"x\n".repeat(rt.alloc(), 103)?;
-/// let mut lists = ListReader::new(rt.alloc(), Refusals::new());
+/// let mut lists = ListReader::new(rt.alloc(), Rules::lenient(), Refusals::new());
 /// read_list(&mut lists, 1, &mut lines::watched::Watched::new(list.as_slice()))?;
 /// let (_, _, refusals) = lists.into_networks();
 /// assert_eq!(rt; refusals.kept().len(), REFUSALS_MAX);
@@ -19,7 +20,7 @@ pub const REFUSALS_MAX: usize = 100;
 /// A refused line.
 ///
 /// ```
-/// let mut lists = ListReader::new(rt.alloc(), Refusals::new());
+/// let mut lists = ListReader::new(rt.alloc(), Rules::lenient(), Refusals::new());
 /// read_list(&mut lists, 7, &mut lines::watched::Watched::new(b"10.0.0.1\n10.0.0.256".as_slice()))?;
 /// let (_, _, refusals) = lists.into_networks();
 /// let fault = LineFault::Entry(EntryFault::Address);
@@ -40,7 +41,7 @@ pub struct Refusal {
 ///
 /// ```
 /// let list = b"x\n".repeat(rt.alloc(), 103)?;
-/// let mut lists = ListReader::new(rt.alloc(), Refusals::new());
+/// let mut lists = ListReader::new(rt.alloc(), Rules::lenient(), Refusals::new());
 /// read_list(&mut lists, 1, &mut lines::watched::Watched::new(list.as_slice()))?;
 /// let (_, _, refusals) = lists.into_networks();
 /// assert_eq!(rt; (refusals.kept().len(), refusals.more()), (100, 3));
@@ -48,6 +49,7 @@ pub struct Refusal {
 #[derive(Debug, Drop)]
 pub struct Refusals {
     slots: [Refusal; REFUSALS_MAX],
+    texts: [Excerpt; REFUSALS_MAX],
     count: usize,
     more: u64,
 }
@@ -83,17 +85,19 @@ impl Refusals {
     {
         Refusals {
             slots: [UNUSED; REFUSALS_MAX],
+            texts: [Excerpt::empty(); REFUSALS_MAX],
             count: 0,
             more: 0,
         }
     }
 
-    /// Adds a refused line.
-    pub(crate) fn add(&mut self, refusal: Refusal)
+    /// Adds a refused line, which has this text.
+    pub(crate) fn add(&mut self, refusal: Refusal, text: &[u8])
         ensures { self.new ≡ with_refusal self.old refusal }
     {
         if self.count < REFUSALS_MAX {
             self.slots[self.count] = refusal;
+            self.texts[self.count] = Excerpt::of(text);
             self.count += 1;
         } else {
             self.more = self.more.saturating_add(1);
@@ -103,7 +107,7 @@ impl Refusals {
     /// Returns the refused lines that are kept: the first hundred.
     ///
     /// ```
-    /// let mut lists = ListReader::new(rt.alloc(), Refusals::new());
+    /// let mut lists = ListReader::new(rt.alloc(), Rules::lenient(), Refusals::new());
     /// read_list(&mut lists, 1, &mut lines::watched::Watched::new(b"1.1.1.1/8/8\nx".as_slice()))?;
     /// let (_, _, refusals) = lists.into_networks();
     /// assert_eq!(rt; refusals.kept()[0].fault.text(), "format");
@@ -115,11 +119,28 @@ impl Refusals {
         &self.slots[..self.count]
     }
 
+    /// Returns the beginning of the text of the refused line at this index of `kept`, which is
+    /// empty if the line was too long. It is for messages, so no clause says what it is.
+    ///
+    /// ```
+    /// let mut lists = ListReader::new(rt.alloc(), Rules::lenient(), Refusals::new());
+    /// read_list(&mut lists, 1, &mut lines::watched::Watched::new(b"10/8 # x".as_slice()))?;
+    /// let (_, _, refusals) = lists.into_networks();
+    /// assert_eq!(rt; refusals.excerpt(0).bytes(), b"10/8 # x".as_slice());
+    /// ```
+    pub fn excerpt(&self, index: usize) -> Excerpt {
+        if index < self.count {
+            self.texts[index]
+        } else {
+            Excerpt::empty()
+        }
+    }
+
     /// Returns how many more refused lines there were, up to 18,446,744,073,709,551,615.
     ///
     /// ```
     /// let list = b"x\n".repeat(rt.alloc(), 103)?;
-    /// let mut lists = ListReader::new(rt.alloc(), Refusals::new());
+    /// let mut lists = ListReader::new(rt.alloc(), Rules::lenient(), Refusals::new());
     /// read_list(&mut lists, 1, &mut lines::watched::Watched::new(list.as_slice()))?;
     /// let (_, _, refusals) = lists.into_networks();
     /// assert_eq!(rt; refusals.more(), 3);
@@ -133,7 +154,7 @@ impl Refusals {
     /// Whether no refused line is kept.
     ///
     /// ```
-    /// let mut lists = ListReader::new(rt.alloc(), Refusals::new());
+    /// let mut lists = ListReader::new(rt.alloc(), Rules::lenient(), Refusals::new());
     /// read_list(&mut lists, 1, &mut lines::watched::Watched::new(b"::/129".as_slice()))?;
     /// let (_, _, refusals) = lists.into_networks();
     /// assert!(rt; Refusals::new().is_empty());

@@ -20,3 +20,4 @@ pub use Rattle.std.specs.List.{list_all}
 pub use Rattle.std.specs.Option.{is_some}
 pub use Rattle.std.specs.Prelude.{MatchOption, None, Option, Some, String, bytes_eq, codes, if◌then◌else◌, nat_lt}
 pub use Rattle.std.specs.String.{string_bytes}
+pub use Rattle.options.specs.Operands.{is_taken}

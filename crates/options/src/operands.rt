@@ -72,9 +72,23 @@ pub fn are_files(alloc: Global, rows: &[Row], words: &[String]) -> bool
         → list_all is_taken (items_of rows.now Mode.Free words.now) ≡ true }
 {
     match items_of(alloc, rows, words) {
-        Ok(items) => items.as_slice().iter().all(|item| is_taken(item)),
+        Ok(items) => are_taken(items.as_slice()),
         Err(_) => false,
     }
+}
+
+// Whether each item is taken.
+fn are_taken(items: &[Item<'_>]) -> bool
+    ensures { result ≡ list_all is_taken items.now }
+{
+    let mut at = 0;
+    while at < items.len() {
+        if !is_taken(&items[at]) {
+            return false;
+        }
+        at += 1;
+    }
+    true
 }
 
 // Whether an item of a command line is no word that stands for one that is not UTF-8, unless as a

@@ -1,8 +1,10 @@
 //! Reports about lists on the error writer. If the write of one fails, nothing else changes.
 use crate::command_line::text_at;
+use crate::escapes::tell_escaped;
 use crate::messages::{tell, tell_head, tell_number, tell_of};
+use ipnetwork::IpNetwork;
 use lines::output::Output;
-use lists::{ReadFault, Refusal, Refusals};
+use lists::{Excerpt, ReadFault, Refusal, Refusals, meant};
 use std::io::Write;
 
 /// Says where refused lines stand, in terms of the words of a command line.
@@ -58,18 +60,20 @@ pub fn tell_refusals<P: Places, E: Write>(
     errors: &mut Output<'_, E>,
 ) {
     let kept = refusals.kept();
-    for refusal in kept {
-        tell_refusal(program, words, places, *refusal, errors);
+    for index in 0..kept.len() {
+        let text = refusals.excerpt(index);
+        tell_refusal(program, words, places, kept[index], &text, errors);
     }
     tell_more(program, refusals.more(), errors);
 }
 
-// Reports a refused line.
+// Reports a refused line, which begins with this text, and what would do in its place.
 fn tell_refusal<P: Places, E: Write>(
     program: &str,
     words: &[String],
     places: &P,
     refusal: Refusal,
+    text: &Excerpt,
     errors: &mut Output<'_, E>,
 ) {
     let (word, number) = places.place(refusal);
@@ -78,7 +82,32 @@ fn tell_refusal<P: Places, E: Write>(
     tell_number(number, errors);
     tell(": refused ", errors);
     tell(refusal.fault.text(), errors);
+    tell_text(text, errors);
+    if !text.is_cut() {
+        tell_meant(meant(refusal.fault, text.bytes()), errors);
+    }
     tell("\n", errors);
+}
+
+// Reports the beginning of a text, unless the text is empty.
+fn tell_text<E: Write>(text: &Excerpt, errors: &mut Output<'_, E>) {
+    if text.bytes().is_empty() {
+        return;
+    }
+    tell(": ", errors);
+    tell_escaped(text.bytes(), errors);
+    if text.is_cut() {
+        tell("..", errors);
+    }
+}
+
+// Reports the network that is probably meant.
+fn tell_meant<E: Write>(network: Option<IpNetwork>, errors: &mut Output<'_, E>) {
+    if let Some(network) = network {
+        tell(" (write ", errors);
+        tell(network.canonical().as_str(), errors);
+        tell(")", errors);
+    }
 }
 
 // Writes the beginning of a message about the list that the word at this index names.
@@ -129,7 +158,12 @@ pub fn tell_fault<E: Write>(
             tell_list(program, words, place, errors);
             tell(": more than 1,073,741,824 bytes\n", errors);
         }
-        ReadFault::NotJson(place, line) => {
+        ReadFault::NotJson(place, _, Some(encoding)) => {
+            tell_list(program, words, place, errors);
+            tell_of(": not JSON, but ", encoding.text(), errors);
+            tell("\n", errors);
+        }
+        ReadFault::NotJson(place, line, None) => {
             tell_list(program, words, place, errors);
             tell(":", errors);
             tell_number(line, errors);

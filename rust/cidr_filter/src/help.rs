@@ -14,6 +14,7 @@ Prints the lines of logs whose address is in a list of IP networks.
     -f LIST         read networks (10.0.0.0/8, 10.0.0.1, 2001:db8::/32) and ranges (A - B) from a
                     file, one on each line; # and ; begin a comment; - is standard input
     -e TEXT         add this network or range
+    --strict        refuse entries of the lists with host bits (10.0.0.5/8)
     --skip-bad      report refused lines of the lists and use the others; without this option, a
                     refused line ends the program before any log is read",
     "
@@ -92,5 +93,5 @@ pub(crate) const PROGRAM: &str = "cidr_filter";
 pub(crate) const USAGE: &str =
     "usage: cidr_filter [-v] [-c] [-H | -h] [-n] [-l] [-Z] [-q] [-o] [-m N] \
      [--after TEXT | [-a] [-k N] [-d CHAR | -w]] [--nth first|last|N] [-4 | -6] [--mapped] \
-     [--networks] [--bad drop|keep|stop|report] [--longest] [--skip-bad] \
+     [--networks] [--bad drop|keep|stop|report] [--longest] [--strict] [--skip-bad] \
      (-f LIST | -e TEXT).. [FILE..]; try --help\n";

@@ -140,8 +140,8 @@ fn open_log<L: OpenLists>(
 }
 
 // Opens the log with this name and filters it, and returns what the logs up to it come to; those
-// before it came to `total`. What is missed is reported, and lines without an address counted. If a fault ends the run, that is reported
-// and `None` is returned.
+// before it came to `total`. What is missed is reported, and lines without an address are counted.
+// If a fault ends the run, that is reported and `None` is returned.
 fn filter_one<'a, L: OpenLists, W: Write, E: Write>(
     filter: &mut Filter<'a>,
     lists: &L,

@@ -4,10 +4,12 @@
 
 use fosibegan_core::plain_std::vec::Vec;
 use crate::matcher::{Matcher, Sets, Tables};
-use crate::rows::{LONGEST, NETWORKS, TEXT};
+use crate::rows::{LONGEST, NETWORKS, STRICT, TEXT};
 use fosibegan_core::ipnetwork::{Ipv4Network, Ipv6Network};
 use fosibegan_core::ipnetwork_sets::{AddressSet, IpAddressSet};
-use cidr_programs::lists::{ListReader, OpenLists, ReadFault, Refusals, read_named, read_text};
+use cidr_programs::lists::{
+    ListReader, OpenLists, ReadFault, Refusals, Rules, read_named, read_text,
+};
 use cidr_programs::log_programs::rows::LIST;
 use cidr_programs::options::given::is_given;
 use cidr_programs::options::items::{Item, Text};
@@ -46,6 +48,13 @@ pub(crate) fn question_of(items: &[Item<'_>]) -> Question {
     }
 }
 
+/// Returns the rules of the lists: with `--strict`, host bits are refused.
+fn rules_of(items: &[Item<'_>]) -> Rules {
+    Rules {
+        refuses_host_bits: is_given(items, STRICT),
+    }
+}
+
 /// Reads the lists that the options name, in their order. Returns their networks, or `AllocError`
 /// if memory runs out; the refused lines; and why a list was not read to the end, if one was not.
 pub(crate) fn read_listed<L: OpenLists>(
@@ -54,7 +63,7 @@ pub(crate) fn read_listed<L: OpenLists>(
     items: &[Item<'_>],
     question: Question,
 ) -> (Result<Matcher, AllocError>, Refusals, Result<(), ReadFault>) {
-    let mut reader = ListReader::new(alloc, Refusals::new());
+    let mut reader = ListReader::new(alloc, rules_of(items), Refusals::new());
     let end = read_lists(lists, items, &mut reader);
     let (listed, refusals) = listed_by(alloc, question, reader);
     (listed, refusals, end)

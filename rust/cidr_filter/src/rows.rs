@@ -58,8 +58,11 @@ pub(crate) const ONLY_V6: usize = 25;
 /// The row of `-Z`.
 pub(crate) const NUL: usize = 26;
 
+/// The row of `--strict`.
+pub(crate) const STRICT: usize = 27;
+
 // The options.
-const ROWS: [Row; 28] = log_rows![
+const ROWS: [Row; 29] = log_rows![
     letter!(b'e', Text, "not a network or range"),
     letter!(b'm', Number, "not a number of lines"),
     long!("--longest", Flag, false, ""),
@@ -77,6 +80,7 @@ const ROWS: [Row; 28] = log_rows![
     letter!(b'4', Flag, ""),
     letter!(b'6', Flag, ""),
     letter!(b'Z', Flag, ""),
+    long!("--strict", Flag, false, ""),
 ];
 
 // The options that may not be given together.

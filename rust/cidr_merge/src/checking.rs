@@ -5,8 +5,6 @@
 use crate::entry_match::entry_of;
 use crate::findings::{either, tell_host_bits, tell_wrong};
 use crate::numbered_lines::{Line, NumberedLines};
-use crate::overlapping::is_up_to;
-use crate::placed::key_of;
 use crate::texts::WholeLists;
 use cidr_programs::lines::output::Output;
 use cidr_programs::lists::Entry;
@@ -55,12 +53,7 @@ fn is_loose(strictly: bool, said: Option<Entry>) -> bool {
 // Returns whether an entry has host bits.
 fn has_host_bits(said: Option<Entry>) -> bool {
     match said {
-        Some(Entry::Network(network)) => {
-            let address = key_of(&network.ip());
-            let first = key_of(&network.network());
-            !is_up_to(&address, &first)
-        }
-        Some(Entry::Range { .. }) => false,
+        Some(entry) => cidr_programs::lists::has_host_bits(&entry),
         None => false,
     }
 }

@@ -265,13 +265,11 @@ pub(crate) fn form_of(usual: Form, items: &[Item<'_>]) -> Form {
 
 // The format of lists that these options give.
 fn shape_of(items: &[Item<'_>]) -> Shape {
-    if !is_given(items, JSON) {
-        return Shape::Lines;
-    }
-    if is_given(items, STRICT) {
-        Shape::StrictJson
-    } else {
-        Shape::Json
+    match (is_given(items, JSON), is_given(items, STRICT)) {
+        (false, false) => Shape::Lines,
+        (false, true) => Shape::StrictLines,
+        (true, false) => Shape::Json,
+        (true, true) => Shape::StrictJson,
     }
 }
 

@@ -7,8 +7,8 @@ use crate::bounds::bound_in;
 use crate::command_line::{Form, Operation, form_called, form_of, most_in, prefix_in};
 use crate::exports::Export;
 use crate::rows::{
-    AFTER, AT_LEAST, BEFORE, FORMAT, FROM, IPV4, IPV6, JSON, MAX_CHANGE, MAX_OTHERS, MAXELEM, MOST,
-    PREFIX, SET, STRICT, TABLE, TEXT, taken,
+    AFTER, AT_LEAST, BEFORE, FORMAT, FROM, IPV4, IPV6, MAX_CHANGE, MAX_OTHERS, MAXELEM, MOST,
+    PREFIX, SET, TABLE, TEXT, taken,
 };
 use crate::set_names::{is_limit, is_set_name};
 use crate::tasks::{ONE_SIDE, Task, is_two_sided, no_first, no_option};
@@ -109,11 +109,6 @@ fn items_fault<'a>(rows: &[Row], task: Task, items: &[Item<'a>]) -> Option<Fault
     None
 }
 
-// Whether `--strict` is given without the `--json` that it needs.
-fn lacks_json(task: Task, items: &[Item<'_>]) -> bool {
-    takes(task, JSON) && is_given(items, STRICT) && !is_given(items, JSON)
-}
-
 // Whether a number of networks is given.
 fn has_count(items: &[Item<'_>]) -> bool {
     is_given(items, MOST) || is_given(items, IPV4) || is_given(items, IPV6)
@@ -198,9 +193,6 @@ fn names_fault<'a>(items: &[Item<'a>], form: Form) -> Option<Fault<'a>> {
 fn together_fault<'a>(table: &Table<'_>, task: Task, items: &[Item<'a>]) -> Option<Fault<'a>> {
     if let Some(fault) = pair_fault(items, table.pairs) {
         return Some(fault);
-    }
-    if lacks_json(task, items) {
-        return Some(about(Subject::Option(STRICT), "only together with --json"));
     }
     let form = form_of(Form::Blocks, items);
     if cannot_print(task, form) {

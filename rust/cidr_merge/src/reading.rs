@@ -5,7 +5,7 @@
 use fosibegan_core::plain_std::string::String;
 use crate::context::Context;
 use crate::help::PROGRAM;
-use crate::shapes::{Shape, read_one};
+use crate::shapes::{Shape, read_one, rules_of};
 use fosibegan_core::ipnetwork::{Ipv4Network, Ipv6Network};
 use fosibegan_core::ipnetwork_sets::AddressSet;
 use cidr_programs::lines::output::Output;
@@ -31,7 +31,7 @@ pub(crate) fn read_side<L: OpenLists>(
     first: usize,
     refusals: Refusals,
 ) -> (Sets, Refusals, Result<(), ReadFault>) {
-    let mut reader = ListReader::new(context.alloc, refusals);
+    let mut reader = ListReader::new(context.alloc, rules_of(shape), refusals);
     let end = read_all(context, shape, names, first, &mut reader);
     let (v4, v6, refusals) = into_sets(reader);
     (Sets { v4, v6 }, refusals, end)

@@ -1,5 +1,6 @@
 -- What is taken of the bytes of a document.
 use Rattle.std.specs.Prelude.{◌≡◌, ◌<◌, ◌⊎◌, ℕ, Bool, true, List, length}
+use Rattle.lists.specs.Encodings.{encoding_of}
 use Rattle.lists.specs.Documents.{IsNoDocument, TakesDocument}
 use Rattle.lists.specs.Lists.{ReadLists, at_list}
 use Rattle.lists.specs.declared.bytes.BytesFault.{BytesFault}
@@ -25,8 +26,8 @@ FailsBytes strict number bytes before after (Open place cause) = ⊥
 FailsBytes strict number bytes before after (Read place) = ⊥
 FailsBytes strict number bytes before after (Length place) = ⊥
 -- the bytes are no document, and nothing changes
-FailsBytes strict number bytes before after (NotJson place line) = (place ≡ number) × IsNoDocument bytes
-    × (after ≡ before)
+FailsBytes strict number bytes before after (NotJson place line encoding) = (place ≡ number) × IsNoDocument bytes
+    × (encoding ≡ encoding_of bytes) × (after ≡ before)
 -- there was no memory for the document, and nothing changes; or memory ran out for an entry of it
 FailsBytes strict number bytes before after OutOfMemory = ((0 < length bytes) × (after ≡ before))
     ⊎ TakesBytes strict (at_list before number) bytes after true

@@ -22,6 +22,8 @@ IsNetworkFault text faults.Address = IsIpCause text causes.Addr
 IsNetworkFault text faults.Prefix = IsIpCause text causes.Prefix
 IsNetworkFault text faults.Range = ⊥
 IsNetworkFault text (faults.Encoding encoding) = ⊥
+IsNetworkFault text faults.Second = ⊥
+IsNetworkFault text faults.HostBits = ⊥
 
 -- reading the text gives the network that it names, or, if it names none, the reason
 abbrev pub ReadsNetworkText : List ℕ → Result Entry EntryFault → Type 0
@@ -39,6 +41,8 @@ abbrev pub IsRangeFault : List ℕ → List ℕ → EntryFault → Type 0
 IsRangeFault before after faults.Format = ⊥
 IsRangeFault before after faults.Prefix = ⊥
 IsRangeFault before after (faults.Encoding encoding) = ⊥
+IsRangeFault before after faults.Second = ⊥
+IsRangeFault before after faults.HostBits = ⊥
 IsRangeFault before after faults.Address = (first last : IpAddr) → ¬ (NamesEnds before after first last)
 IsRangeFault before after faults.Range = (first : IpAddr) × (last : IpAddr) × NamesEnds before after first last
     × ¬ (IsRange first last)

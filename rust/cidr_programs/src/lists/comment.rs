@@ -1,18 +1,27 @@
 // Written by scripts/plain out of crates/lists/src/comment.rt
 
-//! Removes the comment of a line.
+//! The comment of a line.
 
-use fosibegan_core::byte_search::find_from;
+use crate::lists::cutting::before;
+use crate::lists::trimming::{Blank, ByteKind, front_len, trim};
 
 /// Returns what stands before the first `#` or `;` of a line, or the whole line if it has neither.
 pub(crate) fn without_comment(line: &[u8]) -> &[u8] {
     before(before(line, b'#'), b';')
 }
 
-/// Returns what stands before the first byte of this value, or the whole text if it has none.
-fn before(text: &[u8], byte: u8) -> &[u8] {
-    match find_from(text, 0, byte) {
-        Some(end) => &text[..end],
-        None => text,
+/// Returns the first words of the comment of a line: what follows its marks and blanks, up to the
+/// next mark, without the blanks around it.
+pub(crate) fn comment_text(line: &[u8]) -> &[u8] {
+    let comment = &line[without_comment(line).len()..];
+    trim::<Blank>(without_comment(&comment[front_len::<Gap>(comment)..]))
+}
+
+/// Blanks, and the marks that begin a comment.
+struct Gap;
+
+impl ByteKind for Gap {
+    fn has(byte: u8) -> bool {
+        byte == b' ' || byte == b'\t' || byte == b'#' || byte == b';'
     }
 }

@@ -3,6 +3,7 @@
 //! Reads a JSON document as a list.
 
 use crate::lists::bytes::{BytesFault, read_bytes};
+use crate::lists::encoding::encoding_of;
 use crate::lists::list_reader::ListReader;
 use crate::lists::named::ReadFault;
 use crate::lists::open_lists::OpenLists;
@@ -25,7 +26,8 @@ pub const DOCUMENT_MAX: usize = 1_073_741_824;
 /// at any depth, as an element of an array or as a value of an object; keys are not looked at. If
 /// an object has a key more than once, the last value counts.
 ///
-/// Any other string is skipped, or refused if the reading is strict. For refusals, strings are
+/// Any other string is refused if it looks like an entry (`looks_like_entry`) or the reading is
+/// strict, and else skipped; one of more than 1,024 bytes is no entry. For refusals, strings are
 /// numbered as lines are, in the order of `Value`, which sorts the keys of an object.
 ///
 /// An error is returned if the document cannot be opened, a read fails, it has more than
@@ -38,7 +40,7 @@ pub const DOCUMENT_MAX: usize = 1_073_741_824;
 /// use cidr_programs::lists::{OpenFault, ReadFault, read_document};
 ///
 /// let system = program::system::System::new(&rt);
-/// let mut reader = cidr_programs::lists::ListReader::new(Global, cidr_programs::lists::Refusals::new());
+/// let mut reader = cidr_programs::lists::ListReader::new(Global, cidr_programs::lists::Rules::lenient(), cidr_programs::lists::Refusals::new());
 /// let fault = ReadFault::Open(1, OpenFault::Missing);
 /// let read = read_document(Global, &system, "no such file", 1, false, &mut reader);
 /// assert_eq!(read, Err(fault));
@@ -69,7 +71,10 @@ fn take_document(
     let value = match Value::from_slice(alloc, bytes) {
         Ok(value) => value,
         Err(error) if error.is_memory() => return Err(ReadFault::OutOfMemory),
-        Err(error) => return Err(ReadFault::NotJson(place, error.line() as u64)),
+        Err(error) => {
+            let line = error.line() as u64;
+            return Err(ReadFault::NotJson(place, line, encoding_of(bytes)));
+        }
     };
     reader.begin(place);
     take_value(reader, &value, is_strict);

@@ -2,7 +2,7 @@
 
 //! Reads the entry of a line.
 
-use crate::lists::comment::without_comment;
+use crate::lists::comment::{comment_text, without_comment};
 use crate::lists::encoding::{Encoding, encoding_of};
 use crate::lists::range::read_range;
 use crate::lists::trimming::{Blank, trim};
@@ -54,11 +54,15 @@ pub enum EntryFault {
     Range,
     /// The entry is not plain text.
     Encoding(Encoding),
+    /// An entry follows in the comment: `10.0.0.0/8; 192.168.0.0/16`.
+    Second,
+    /// The network has host bits, and such entries are refused (`Rules`).
+    HostBits,
 }
 
 impl EntryFault {
-    /// Returns the fault in a word, `format`, `address`, `prefix` or `range`, or the name of the
-    /// encoding.
+    /// Returns the fault in words, `format`, `address`, `prefix`, `range`, `second entry` or
+    /// `host bits`, or the name of the encoding.
     ///
     /// ```
     /// # use cidr_programs::in_examples::*;
@@ -71,6 +75,8 @@ impl EntryFault {
             EntryFault::Prefix => "prefix",
             EntryFault::Range => "range",
             EntryFault::Encoding(encoding) => encoding.text(),
+            EntryFault::Second => "second entry",
+            EntryFault::HostBits => "host bits",
         }
     }
 }
@@ -84,14 +90,17 @@ impl EntryFault {
 /// entry is the text of a network, as `IpNetwork::read_bytes` reads it. All other bytes belong to
 /// the entry.
 ///
-/// An error is returned if the entry names no addresses.
+/// An error is returned if the entry names no addresses, or if an entry follows it in the comment:
+/// what stands behind the first `#` or `;`, more of them and blanks, up to the next of them, is an
+/// entry by itself. A comment without an entry before it may have one.
 ///
 /// ```
 /// # use cidr_programs::in_examples::*;
 /// # ended(|| {
 /// let (first, last) = ("10.0.0.1".parse()?, "10.0.0.9".parse()?);
 /// assert_eq!(read_entry(b"10.0.0.1 - 10.0.0.9"), Ok(Some(Entry::Range { first, last })));
-/// assert_eq!(read_entry(b"; nothing"), Ok(None));
+/// assert_eq!(read_entry(b"; 10.0.0.0/8"), Ok(None));
+/// assert_eq!(read_entry(b"10.0.0.0/8; 192.0.2.1"), Err(EntryFault::Second));
 /// # Ok(())
 /// # });
 /// ```
@@ -111,9 +120,15 @@ fn read_line(line: &[u8]) -> Result<Option<Entry>, EntryFault> {
         return Ok(None);
     }
     match read_text(text) {
+        Ok(_) if names_entry(comment_text(line)) => Err(EntryFault::Second),
         Ok(entry) => Ok(Some(entry)),
         Err(fault) => Err(fault),
     }
+}
+
+// Whether a text names an entry.
+fn names_entry(text: &[u8]) -> bool {
+    read_plain(text).is_ok()
 }
 
 /// Returns the entry that a text names, or why it names none.

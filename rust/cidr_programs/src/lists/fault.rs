@@ -9,7 +9,7 @@ use crate::lists::EntryFault;
 /// ```
 /// # use cidr_programs::in_examples::*;
 /// # ended(|| {
-/// let mut lists = ListReader::new(Global, Refusals::new());
+/// let mut lists = ListReader::new(Global, Rules::lenient(), Refusals::new());
 /// read_list(&mut lists, 1, &mut cidr_programs::lines::watched::Watched::new(b"10.0.0.0/33".as_slice()))?;
 /// let (_, _, refusals) = lists.into_networks();
 /// assert_eq!(refusals.kept()[0].fault, LineFault::Entry(EntryFault::Prefix));

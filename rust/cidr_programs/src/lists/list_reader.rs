@@ -3,10 +3,13 @@
 //! Collects what is read of lists.
 
 use fosibegan_core::plain_std::vec::Vec;
-use crate::lists::entry::{Entry, read_entry, read_text};
+use crate::lists::entry::{Entry, EntryFault, read_entry, read_text};
 use crate::lists::fault::LineFault;
+use crate::lists::looks::looks_like_entry;
 use crate::lists::networks::Networks;
+use crate::lists::read::LINE_MAX;
 use crate::lists::refusals::{Refusal, Refusals};
+use crate::lists::rules::Rules;
 use fosibegan_core::ipnetwork::{IpAddr, IpNetwork, Ipv4Network, Ipv6Network};
 use fosibegan_core::plain_std::alloc::{AllocError, Global};
 
@@ -19,7 +22,7 @@ use fosibegan_core::plain_std::alloc::{AllocError, Global};
 /// ```
 /// # use cidr_programs::in_examples::*;
 /// # ended(|| {
-/// let mut lists = ListReader::new(Global, Refusals::new());
+/// let mut lists = ListReader::new(Global, Rules::lenient(), Refusals::new());
 /// read_list(&mut lists, 1, &mut cidr_programs::lines::watched::Watched::new(b"10.0.0.0/9\n::1".as_slice()))?;
 /// read_list(&mut lists, 2, &mut cidr_programs::lines::watched::Watched::new(b"10.128.0.0/9".as_slice()))?;
 /// let (v4, v6, _) = lists.into_networks();
@@ -32,6 +35,7 @@ use fosibegan_core::plain_std::alloc::{AllocError, Global};
 pub struct ListReader {
     v4: Networks<Ipv4Network>,
     v6: Networks<Ipv6Network>,
+    rules: Rules,
     refusals: Refusals,
     list: usize,
     line: u64,
@@ -39,19 +43,20 @@ pub struct ListReader {
 }
 
 impl ListReader {
-    /// Creates a reader that has read no list yet. `refusals` holds the lines that were refused
-    /// before.
+    /// Creates a reader that has read no list yet, and refuses entries by these rules. `refusals`
+    /// holds the lines that were refused before.
     ///
     /// ```
     /// # use cidr_programs::in_examples::*;
-    /// let lists = ListReader::new(Global, Refusals::new());
+    /// let lists = ListReader::new(Global, Rules::lenient(), Refusals::new());
     /// let (v4, v6, refusals) = lists.into_networks();
     /// assert!(v4.is_empty() && v6.is_empty() && refusals.is_empty());
     /// ```
-    pub fn new(alloc: Global, refusals: Refusals) -> ListReader {
+    pub fn new(alloc: Global, rules: Rules, refusals: Refusals) -> ListReader {
         ListReader {
             v4: Networks::new(alloc),
             v6: Networks::new(alloc),
+            rules,
             refusals,
             list: 0,
             line: 0,
@@ -70,7 +75,7 @@ impl ListReader {
     /// ```
     /// # use cidr_programs::in_examples::*;
     /// # ended(|| {
-    /// let mut lists = ListReader::new(Global, Refusals::new());
+    /// let mut lists = ListReader::new(Global, Rules::lenient(), Refusals::new());
     /// read_list(&mut lists, 1, &mut cidr_programs::lines::watched::Watched::new(b"10.0.0.0/8".as_slice()))?;
     /// assert!(!lists.is_out_of_memory());
     /// # Ok(())
@@ -88,7 +93,7 @@ impl ListReader {
     /// ```
     /// # use cidr_programs::in_examples::*;
     /// # ended(|| {
-    /// let mut lists = ListReader::new(Global, Refusals::new());
+    /// let mut lists = ListReader::new(Global, Rules::lenient(), Refusals::new());
     /// let list = b"10.0.0.0/8\n192.0.2.7 - 192.0.2.8\n10.1.0.0/16".as_slice();
     /// read_list(&mut lists, 1, &mut cidr_programs::lines::watched::Watched::new(list))?;
     /// let (v4, _, _) = lists.into_networks();
@@ -109,8 +114,8 @@ impl ListReader {
         self.next_line();
         match read_entry(line) {
             Ok(None) => {}
-            Ok(Some(entry)) => self.take(entry),
-            Err(fault) => self.refuse(LineFault::Entry(fault)),
+            Ok(Some(entry)) => self.take_allowed(entry, line),
+            Err(fault) => self.refuse(LineFault::Entry(fault), line),
         }
     }
 
@@ -120,20 +125,35 @@ impl ListReader {
             return;
         }
         self.next_line();
-        self.refuse(LineFault::Length);
+        self.refuse(LineFault::Length, &[]);
     }
 
     /// Takes a string of a document, unless memory has run out. A string that names no entry is
-    /// refused if the reading is strict.
+    /// refused if the reading is strict or it looks like an entry.
     pub(crate) fn take_string(&mut self, text: &[u8], is_strict: bool) {
         if self.is_out_of_memory() {
             return;
         }
         self.next_line();
+        if text.len() > LINE_MAX {
+            self.pass(LineFault::Length, text, is_strict);
+        } else {
+            self.take_text(text, is_strict);
+        }
+    }
+
+    // Takes a string of at most 1,024 bytes.
+    fn take_text(&mut self, text: &[u8], is_strict: bool) {
         match read_text(text) {
-            Ok(entry) => self.take(entry),
-            Err(fault) if is_strict => self.refuse(LineFault::Entry(fault)),
-            Err(_) => {}
+            Ok(entry) => self.take_allowed(entry, text),
+            Err(fault) => self.pass(LineFault::Entry(fault), text, is_strict),
+        }
+    }
+
+    // Refuses a string if the reading is strict or it looks like an entry.
+    fn pass(&mut self, fault: LineFault, text: &[u8], is_strict: bool) {
+        if is_strict || looks_like_entry(text) {
+            self.refuse(fault, text);
         }
     }
 
@@ -142,13 +162,23 @@ impl ListReader {
         self.line = self.line.saturating_add(1);
     }
 
-    // Notes that the current line is refused.
-    fn refuse(&mut self, fault: LineFault) {
-        self.refusals.add(Refusal {
+    // Notes that the current line, which has this text, is refused.
+    fn refuse(&mut self, fault: LineFault, text: &[u8]) {
+        let refusal = Refusal {
             list: self.list,
             line: self.line,
             fault,
-        });
+        };
+        self.refusals.add(refusal, text);
+    }
+
+    // Takes the entry of a text, unless it is refused for its host bits.
+    fn take_allowed(&mut self, entry: Entry, text: &[u8]) {
+        if self.rules.refuses(&entry) {
+            self.refuse(LineFault::Entry(EntryFault::HostBits), text);
+        } else {
+            self.take(entry);
+        }
     }
 
     // Takes an entry, or notes that memory ran out for it.

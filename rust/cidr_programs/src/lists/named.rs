@@ -2,6 +2,7 @@
 
 //! Reads a list by its name.
 
+use crate::lists::encoding::Encoding;
 use crate::lists::list_reader::ListReader;
 use crate::lists::open_lists::OpenLists;
 use crate::lists::opening::{OpenFault, open_list};
@@ -24,8 +25,8 @@ pub enum ReadFault {
     /// The document that the word at this index names has more than 1,073,741,824 bytes.
     Length(usize),
     /// The document that the word at this index names is not JSON or has more than 127 levels: the
-    /// index of the word, and the line.
-    NotJson(usize, u64),
+    /// index of the word, the line, and what the document is if it is not plain text.
+    NotJson(usize, u64, Option<Encoding>),
     /// Memory ran out.
     OutOfMemory,
 }
@@ -43,7 +44,7 @@ pub enum ReadFault {
 /// use cidr_programs::lists::{OpenFault, ReadFault, read_named};
 ///
 /// let system = program::system::System::new(&rt);
-/// let mut reader = cidr_programs::lists::ListReader::new(Global, cidr_programs::lists::Refusals::new());
+/// let mut reader = cidr_programs::lists::ListReader::new(Global, cidr_programs::lists::Rules::lenient(), cidr_programs::lists::Refusals::new());
 /// let fault = ReadFault::Open(1, OpenFault::Missing);
 /// assert_eq!(read_named(&system, "no such file", 1, &mut reader), Err(fault));
 /// ```
@@ -68,7 +69,7 @@ pub fn read_named<L: OpenLists>(
 ///
 /// ```
 /// # use cidr_programs::in_examples::*;
-/// let mut reader = cidr_programs::lists::ListReader::new(Global, cidr_programs::lists::Refusals::new());
+/// let mut reader = cidr_programs::lists::ListReader::new(Global, cidr_programs::lists::Rules::lenient(), cidr_programs::lists::Refusals::new());
 /// assert_eq!(cidr_programs::lists::read_text("10.0.0.0/8", 1, &mut reader), Ok(()));
 /// let (v4, _, _) = reader.into_networks();
 /// assert_eq!(v4.len(), 1);

@@ -14,7 +14,7 @@ use fosibegan_core::plain_std::io::Read;
 /// # use cidr_programs::in_examples::*;
 /// # ended(|| {
 /// let line = [b'#'].kit_repeat(Global, LINE_MAX + 1)?;
-/// let mut lists = ListReader::new(Global, Refusals::new());
+/// let mut lists = ListReader::new(Global, Rules::lenient(), Refusals::new());
 /// read_list(&mut lists, 1, &mut cidr_programs::lines::watched::Watched::new(line.as_slice()))?;
 /// assert_eq!(lists.into_networks().2.kept()[0].fault, LineFault::Length);
 /// # Ok(())
@@ -35,7 +35,7 @@ const BUFFER_MAX: usize = 65536;
 /// ```
 /// # use cidr_programs::in_examples::*;
 /// # ended(|| {
-/// let mut lists = ListReader::new(Global, Refusals::new());
+/// let mut lists = ListReader::new(Global, Rules::lenient(), Refusals::new());
 /// let list = b"# private\n10.0.0.0/8\n10.0.0.0/33\n".as_slice();
 /// read_list(&mut lists, 1, &mut cidr_programs::lines::watched::Watched::new(list))?;
 /// let (v4, _, refusals) = lists.into_networks();

@@ -2,6 +2,7 @@
 
 //! The refused lines of lists.
 
+use crate::lists::excerpt::Excerpt;
 use crate::lists::fault::LineFault;
 
 /// The most refused lines that are kept.
@@ -10,7 +11,7 @@ use crate::lists::fault::LineFault;
 /// # use cidr_programs::in_examples::*;
 /// # ended(|| {
 /// let list = b"x\n".kit_repeat(Global, 103)?;
-/// let mut lists = ListReader::new(Global, Refusals::new());
+/// let mut lists = ListReader::new(Global, Rules::lenient(), Refusals::new());
 /// read_list(&mut lists, 1, &mut cidr_programs::lines::watched::Watched::new(list.as_slice()))?;
 /// let (_, _, refusals) = lists.into_networks();
 /// assert_eq!(refusals.kept().len(), REFUSALS_MAX);
@@ -24,7 +25,7 @@ pub const REFUSALS_MAX: usize = 100;
 /// ```
 /// # use cidr_programs::in_examples::*;
 /// # ended(|| {
-/// let mut lists = ListReader::new(Global, Refusals::new());
+/// let mut lists = ListReader::new(Global, Rules::lenient(), Refusals::new());
 /// read_list(&mut lists, 7, &mut cidr_programs::lines::watched::Watched::new(b"10.0.0.1\n10.0.0.256".as_slice()))?;
 /// let (_, _, refusals) = lists.into_networks();
 /// let fault = LineFault::Entry(EntryFault::Address);
@@ -49,7 +50,7 @@ pub struct Refusal {
 /// # use cidr_programs::in_examples::*;
 /// # ended(|| {
 /// let list = b"x\n".kit_repeat(Global, 103)?;
-/// let mut lists = ListReader::new(Global, Refusals::new());
+/// let mut lists = ListReader::new(Global, Rules::lenient(), Refusals::new());
 /// read_list(&mut lists, 1, &mut cidr_programs::lines::watched::Watched::new(list.as_slice()))?;
 /// let (_, _, refusals) = lists.into_networks();
 /// assert_eq!((refusals.kept().len(), refusals.more()), (100, 3));
@@ -59,6 +60,7 @@ pub struct Refusal {
 #[derive(Debug)]
 pub struct Refusals {
     slots: [Refusal; REFUSALS_MAX],
+    texts: [Excerpt; REFUSALS_MAX],
     count: usize,
     more: u64,
 }
@@ -81,15 +83,17 @@ impl Refusals {
     pub fn new() -> Refusals {
         Refusals {
             slots: [UNUSED; REFUSALS_MAX],
+            texts: [Excerpt::empty(); REFUSALS_MAX],
             count: 0,
             more: 0,
         }
     }
 
-    /// Adds a refused line.
-    pub(crate) fn add(&mut self, refusal: Refusal) {
+    /// Adds a refused line, which has this text.
+    pub(crate) fn add(&mut self, refusal: Refusal, text: &[u8]) {
         if self.count < REFUSALS_MAX {
             self.slots[self.count] = refusal;
+            self.texts[self.count] = Excerpt::of(text);
             self.count += 1;
         } else {
             self.more = self.more.saturating_add(1);
@@ -101,7 +105,7 @@ impl Refusals {
     /// ```
     /// # use cidr_programs::in_examples::*;
     /// # ended(|| {
-    /// let mut lists = ListReader::new(Global, Refusals::new());
+    /// let mut lists = ListReader::new(Global, Rules::lenient(), Refusals::new());
     /// read_list(&mut lists, 1, &mut cidr_programs::lines::watched::Watched::new(b"1.1.1.1/8/8\nx".as_slice()))?;
     /// let (_, _, refusals) = lists.into_networks();
     /// assert_eq!(refusals.kept()[0].fault.text(), "format");
@@ -113,13 +117,34 @@ impl Refusals {
         &self.slots[..self.count]
     }
 
+    /// Returns the beginning of the text of the refused line at this index of `kept`, which is
+    /// empty if the line was too long. It is for messages, so no clause says what it is.
+    ///
+    /// ```
+    /// # use cidr_programs::in_examples::*;
+    /// # ended(|| {
+    /// let mut lists = ListReader::new(Global, Rules::lenient(), Refusals::new());
+    /// read_list(&mut lists, 1, &mut cidr_programs::lines::watched::Watched::new(b"10/8 # x".as_slice()))?;
+    /// let (_, _, refusals) = lists.into_networks();
+    /// assert_eq!(refusals.excerpt(0).bytes(), b"10/8 # x".as_slice());
+    /// # Ok(())
+    /// # });
+    /// ```
+    pub fn excerpt(&self, index: usize) -> Excerpt {
+        if index < self.count {
+            self.texts[index]
+        } else {
+            Excerpt::empty()
+        }
+    }
+
     /// Returns how many more refused lines there were, up to 18,446,744,073,709,551,615.
     ///
     /// ```
     /// # use cidr_programs::in_examples::*;
     /// # ended(|| {
     /// let list = b"x\n".kit_repeat(Global, 103)?;
-    /// let mut lists = ListReader::new(Global, Refusals::new());
+    /// let mut lists = ListReader::new(Global, Rules::lenient(), Refusals::new());
     /// read_list(&mut lists, 1, &mut cidr_programs::lines::watched::Watched::new(list.as_slice()))?;
     /// let (_, _, refusals) = lists.into_networks();
     /// assert_eq!(refusals.more(), 3);
@@ -135,7 +160,7 @@ impl Refusals {
     /// ```
     /// # use cidr_programs::in_examples::*;
     /// # ended(|| {
-    /// let mut lists = ListReader::new(Global, Refusals::new());
+    /// let mut lists = ListReader::new(Global, Rules::lenient(), Refusals::new());
     /// read_list(&mut lists, 1, &mut cidr_programs::lines::watched::Watched::new(b"::/129".as_slice()))?;
     /// let (_, _, refusals) = lists.into_networks();
     /// assert!(Refusals::new().is_empty());

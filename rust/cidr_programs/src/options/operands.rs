@@ -72,9 +72,21 @@ pub fn operands_fault<'a>(table: &Table<'_>, items: &[Item<'a>]) -> Option<Fault
 /// ```
 pub fn are_files(alloc: Global, rows: &[Row], words: &[String]) -> bool {
     match items_of(alloc, rows, words) {
-        Ok(items) => items.as_slice().iter().all(|item| is_taken(item)),
+        Ok(items) => are_taken(items.as_slice()),
         Err(_) => false,
     }
+}
+
+// Whether each item is taken.
+fn are_taken(items: &[Item<'_>]) -> bool {
+    let mut at = 0;
+    while at < items.len() {
+        if !is_taken(&items[at]) {
+            return false;
+        }
+        at += 1;
+    }
+    true
 }
 
 // Whether an item of a command line is no word that stands for one that is not UTF-8, unless as a

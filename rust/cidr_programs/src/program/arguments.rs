@@ -124,7 +124,7 @@ fn arguments_by_bytes<R: Env + Alloc<A = Global>>(rt: &R) -> Result<Vec<String>,
 
 // Returns an argument, or what stands for it.
 fn word_of(alloc: Global, bytes: &[u8]) -> Result<String, AllocError> {
-    match str::from_utf8(bytes) {
+    match std::str::from_utf8(bytes) {
         Ok(text) => String::from_str(alloc, text),
         Err(_) => stand_in(alloc, bytes),
     }

@@ -1,4 +1,4 @@
-use Rattle.cidr_filter.proofs.Known.{◌≡◌, ◌∙◌, Bool, List, true, false, inl, inr, refl, sym, ap, subst, Result, Ok, OnOk, IfOk, IfErr, KnownLists, nothing_read, Refused, no_refusals, ReadFault, inputs_of, Item, Ending, ending, FiltersLogs, HoldsRead, StopsAtItems, question_of, EndsRequest, StopsAtLists, filter_of, is_stopped_by, ReadsAll, Matcher}
+use Rattle.cidr_filter.proofs.Known.{◌≡◌, ◌∙◌, Bool, List, true, false, inl, inr, refl, sym, ap, subst, Result, Ok, OnOk, IfOk, IfErr, KnownLists, nothing_read, rules_of, Refused, no_refusals, ReadFault, inputs_of, Item, Ending, ending, FiltersLogs, HoldsRead, StopsAtItems, question_of, EndsRequest, StopsAtLists, filter_of, is_stopped_by, ReadsAll, Matcher}
 use Rattle.cidr_filter.proofs.run.filter_files.Goals as goal
 
 module _ {T X : Type 0} (known : KnownLists) (items : List Item) (result : Result T ReadFault) (done : T)
@@ -38,8 +38,8 @@ returns-in-Err g c =
       inl (inr (
         c.in-Err.fault,
         c.read_listed-listed.result.1,
-        subst (λ r. IfErr r (λ fault. StopsAtItems known 0 c.args.items.now (nothing_read no_refusals) fault
-            c.read_listed-listed.result.1))
+        subst (λ r. IfErr r (λ fault. StopsAtItems known 0 c.args.items.now
+            (nothing_read (rules_of c.args.items.now) no_refusals) fault c.read_listed-listed.result.1))
             c.in-Err.is c.read_listed-listed.ensures.stopped,
       )),
     )

@@ -1,5 +1,5 @@
 use Rattle.lists.proofs.Known.{none_before, found_before}
-use Rattle.lists.proofs.comment.before.Goals as goal
+use Rattle.lists.proofs.cutting.before.Goals as goal
 
 pub returns-in-Some : goal.returns-in-Some
 returns-in-Some c = found_before c.args.byte c.args.text.now c.in-Some.end c.in-Some.ensures

@@ -1,0 +1,71 @@
+// Written by scripts/plain out of crates/lists/src/excerpt.rt
+
+//! The beginning of a text, for messages.
+
+/// The most bytes of an excerpt.
+const EXCERPT_MAX: usize = 64;
+
+/// The beginning of a text, for messages: at most 64 bytes.
+///
+/// ```
+/// # use cidr_programs::in_examples::*;
+/// assert_eq!(cidr_programs::lists::Excerpt::of(b"10/8").bytes(), b"10/8".as_slice());
+/// ```
+#[derive(Clone, Copy, Debug)]
+pub struct Excerpt {
+    bytes: [u8; EXCERPT_MAX],
+    len: usize,
+}
+
+impl Excerpt {
+    /// Returns the excerpt of an empty text.
+    ///
+    /// ```
+    /// # use cidr_programs::in_examples::*;
+    /// assert!(cidr_programs::lists::Excerpt::empty().bytes().is_empty());
+    /// ```
+    pub fn empty() -> Excerpt {
+        Excerpt {
+            bytes: [0; EXCERPT_MAX],
+            len: 0,
+        }
+    }
+
+    /// Returns the excerpt of a text.
+    ///
+    /// ```
+    /// # use cidr_programs::in_examples::*;
+    /// # ended(|| {
+    /// let text = [b'1'].kit_repeat(Global, 65)?;
+    /// assert_eq!(cidr_programs::lists::Excerpt::of(&text).bytes().len(), 64);
+    /// # Ok(())
+    /// # });
+    /// ```
+    pub fn of(text: &[u8]) -> Excerpt {
+        let mut excerpt = Excerpt::empty();
+        let count = text.len().min(EXCERPT_MAX);
+        excerpt.bytes[..count].copy_from_slice(&text[..count]);
+        excerpt.len = text.len();
+        excerpt
+    }
+
+    /// Returns the bytes.
+    ///
+    /// ```
+    /// # use cidr_programs::in_examples::*;
+    /// assert_eq!(cidr_programs::lists::Excerpt::of(b"::1").bytes(), b"::1".as_slice());
+    /// ```
+    pub fn bytes(&self) -> &[u8] {
+        &self.bytes[..self.len.min(EXCERPT_MAX)]
+    }
+
+    /// Returns whether the text is longer than the excerpt.
+    ///
+    /// ```
+    /// # use cidr_programs::in_examples::*;
+    /// assert!(!cidr_programs::lists::Excerpt::of(b"::1").is_cut());
+    /// ```
+    pub fn is_cut(&self) -> bool {
+        self.len > EXCERPT_MAX
+    }
+}
