@@ -175,6 +175,42 @@ class Questions(unittest.TestCase):
 
         self.assertEqual((str(Made("10.0.0.0/8", 2)), Made("10.0.0.0/8", 2).second), ("10.0.0.0/8", 2))
 
+    def test_not_made(self):
+        """A subclass that does not call __init__ has no members, rather than every address."""
+
+        class Forgetful(IPv4Network):
+            def __init__(self, text):
+                self.note = text
+
+        class Six(IPv6Network):
+            def __init__(self, text):
+                self.note = text
+
+        for network, made in ((Forgetful("10.0.0.0/8"), IPv4Network("10.0.0.0/8")), (Six("::1"), IPv6Network("::1"))):
+            questions = [
+                lambda: made.ip in network,
+                lambda: network.contains_column(made.ip.packed),
+                lambda: network.subnet_of(made),
+                lambda: network.supernet_of(made),
+                lambda: made.overlaps(network),
+                lambda: network == made,
+                lambda: made < network,
+                lambda: hash(network),
+                lambda: str(network),
+                lambda: list(network)[:1],
+                lambda: network[0],
+                lambda: list(network.subnets(new_prefix=network.max_prefixlen)),
+                lambda: AddressSet([network]),
+                lambda: network in AddressSet([made]),
+                lambda: Table([network]),
+                lambda: ipnetwork.PrefixTable({made: 1}).longest_match(network),
+                *(lambda name=name: getattr(network, name) for name in (
+                    "ip", "network_address", "broadcast_address", "netmask", "prefixlen", "num_addresses")),
+            ]
+            for number, ask in enumerate(questions):
+                with self.subTest(network=type(network).__name__, number=number):
+                    self.assertRaises(AttributeError, ask)
+
     def test_membership(self):
         net = IPv4Network("74.125.227.0/25")
         self.assertIn(IPv4Address("74.125.227.4"), net)

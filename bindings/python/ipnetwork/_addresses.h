@@ -26,12 +26,19 @@ typedef struct {
 typedef struct {
     PyObject_HEAD
     State *state;
+    /* Its family is 0 until the network is made, so that the library refuses questions about one whose `__init__` a
+     * subclass did not call. */
     ipnetwork_ip held;
-    /* Computed when the network is made, because `ipaddress` does so too. */
-    PyObject *least, *mask;
     /* What the library returned already, or NULL. */
-    PyObject *text, *ip, *greatest, *size;
+    PyObject *least, *text, *ip, *greatest, *size;
 } Network;
+
+/* Whether a network was made; else 0 with an exception. */
+static int is_made(const Network *self) {
+    if (self->held.family != 0) return 1;
+    PyErr_SetString(PyExc_AttributeError, "the network is not made yet: its class does not call super().__init__");
+    return 0;
+}
 
 static PyObject *again(PyObject *told) { Py_INCREF(told); return told; }
 

@@ -33,7 +33,7 @@ static int asked_of(State *state, PyObject *given, ipnetwork_ip *held) {
     ipnetwork_address address;
     if (PyObject_TypeCheck(given, state->network_type)) {
         *held = ((Network *)given)->held;
-        return IS_ADDRESS;
+        return is_made((Network *)given) ? IS_ADDRESS : HAS_RAISED;
     }
     int kind = address_of(state, given, &address);
     if (kind == IS_ADDRESS)

@@ -11,7 +11,7 @@ static PyObject *network_column(PyObject *object, PyObject *given) {
     Py_ssize_t width = width_of(held);
     PyObject *answers = NULL;
     Py_buffer column;
-    if (!bytes_of(given, &column)) return NULL;
+    if (!is_made((Network *)object) || !bytes_of(given, &column)) return NULL;
     if (column.len % width != 0) {
         PyErr_Format(PyExc_ValueError, "%zd bytes are no column of addresses of %zd bytes", column.len, width);
     } else if ((answers = PyByteArray_FromStringAndSize(NULL, column.len / width)) != NULL && column.len > 0) {

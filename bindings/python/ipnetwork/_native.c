@@ -14,22 +14,21 @@
 /* ip_network(text), with the classes given to `register`. */
 static PyObject *either_network(PyObject *module, PyObject *text) {
     State *state = PyModule_GetState(module);
-    char *bytes;
+    PyObject *encoded;
     Py_ssize_t length;
     if (PyBytes_Check(text))
         return PyObject_CallFunctionObjArgs(
             PyBytes_Size(text) == 16 ? state->v6_class : state->v4_class, text, NULL);
-    PyObject *encoded = bytes_of_text(text);
-    if (encoded == NULL || PyBytes_AsStringAndSize(encoded, &bytes, &length) < 0) return Py_XDECREF(encoded), NULL;
+    const char *bytes = bytes_of_text(text, &length, &encoded);
+    if (bytes == NULL) return Py_XDECREF(encoded), NULL;
     ipnetwork_ip held;
     ipnetwork_fault fault = ipnetwork_read_with_cause(bytes, (size_t)length, &held);
-    Py_DECREF(encoded);
+    Py_XDECREF(encoded);
     if (fault != IPNETWORK_OK) return raise_fault(state, fault, text), NULL;
     PyObject *type = held.family == 4 ? state->v4_class : state->v6_class;
     PyObject *made = allocated(state, (PyTypeObject *)type);
     if (made == NULL) return NULL;
     ((Network *)made)->held = held;
-    if (!tell((Network *)made)) Py_CLEAR(made);
     return made;
 }
 
@@ -81,7 +80,7 @@ static PyObject *subnet_at(PyObject *module, PyObject *arguments) {
     uint8_t prefix, n[16], row[17];
     if (!PyArg_ParseTuple(arguments, "O!bO", state->network_type, &object, &prefix, &number)) return NULL;
     const ipnetwork_ip *held = &((Network *)object)->held;
-    if (!octets_of_number(state, number, n)) return NULL;
+    if (!is_made((Network *)object) || !octets_of_number(state, number, n)) return NULL;
     static const uint8_t zeros[12];
     ipnetwork_fault fault = IPNETWORK_NO_MEMBER;
     if (held->family == 6) fault = ipnetwork_v6_subnet_at(&held->v6, prefix, n, (ipnetwork_v6 *)row);
@@ -245,6 +244,8 @@ static PyMethodDef methods[] = {
 };
 
 static PyGetSetDef parts[] = {
+    {"network_address", get_least, NULL, "The least member: the address with its host bits cleared.", NULL},
+    {"netmask", get_mask, NULL, "The mask of the prefix length.", NULL},
     {"ip", get_ip, NULL, "The address, host bits included.", NULL},
     {"prefixlen", get_prefix, NULL, "The prefix length.", NULL},
     {"broadcast_address", get_greatest, NULL, "The greatest member: the address with its host bits set.", NULL},
@@ -253,16 +254,10 @@ static PyGetSetDef parts[] = {
     {NULL, NULL, NULL, NULL, NULL},
 };
 
-static PyMemberDef at_hand[] = {
-    {"network_address", T_OBJECT_EX, offsetof(Network, least), READONLY, "The least member: the address with its host bits cleared."},
-    {"netmask", T_OBJECT_EX, offsetof(Network, mask), READONLY, "The mask of the prefix length."},
-    {NULL, 0, 0, 0, NULL},
-};
-
 static PyType_Slot network_slots[] = {
     {Py_tp_new, network_new},          {Py_tp_init, network_init},  {Py_tp_dealloc, network_dealloc},
     {Py_tp_richcompare, network_compare}, {Py_tp_hash, network_hash}, {Py_tp_str, network_text},
-    {Py_tp_iter, network_iter},        {Py_tp_methods, methods},    {Py_tp_getset, parts}, {Py_tp_members, at_hand},
+    {Py_tp_iter, network_iter},        {Py_tp_methods, methods},    {Py_tp_getset, parts},
     {Py_sq_contains, network_contains}, {Py_mp_subscript, network_nth},
     {Py_tp_doc, "What the networks of both families have."}, {0, NULL},
 };

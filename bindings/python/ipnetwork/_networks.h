@@ -8,7 +8,7 @@ static void network_dealloc(PyObject *object) {
     PyTypeObject *type = Py_TYPE(object);
     freefunc release = (freefunc)PyType_GetSlot(type, Py_tp_free);
     Network *self = (Network *)object;
-    PyObject **places[] = {&self->least, &self->mask, &self->text, &self->ip, &self->greatest, &self->size};
+    PyObject **places[] = {&self->least, &self->text, &self->ip, &self->greatest, &self->size};
     for (size_t place = 0; place < sizeof places / sizeof *places; place++) Py_CLEAR(*places[place]);
     release(object);
     Py_DECREF(type);
@@ -28,9 +28,10 @@ static PyObject *allocated(State *state, PyTypeObject *type) {
      * more. */
     if ((PyObject *)type == state->v4_class || (PyObject *)type == state->v6_class) PyObject_GC_UnTrack(made);
     ((Network *)made)->state = state;
-    ((Network *)made)->held.family = PyType_IsSubtype(type, state->v6_type) ? 6 : 4;
     return made;
 }
+
+static uint8_t family_of(State *state, PyTypeObject *type) { return PyType_IsSubtype(type, state->v6_type) ? 6 : 4; }
 
 static PyObject *network_new(PyTypeObject *type, PyObject *arguments, PyObject *names) {
     (void)arguments, (void)names;
@@ -47,9 +48,18 @@ static ipnetwork_fault put(ipnetwork_ip *held, const uint8_t *octets, uint8_t pr
     return held->family == 4 ? ipnetwork_v4_new(octets, prefix, &held->v4) : ipnetwork_v6_new(octets, prefix, &held->v6);
 }
 
-/* The bytes of a str, as the library reads them: a new reference, or NULL with an exception. */
-static PyObject *bytes_of_text(PyObject *text) {
-    if (PyUnicode_Check(text)) return PyUnicode_AsEncodedString(text, "utf-8", "surrogatepass");
+/* The bytes of a str, as the library reads them: those that the str keeps or, where it has half a surrogate pair, those
+ * of an object that the caller releases. NULL with an exception. */
+static const char *bytes_of_text(PyObject *text, Py_ssize_t *length, PyObject **encoded) {
+    char *bytes;
+    *encoded = NULL;
+    if (PyUnicode_Check(text)) {
+        const char *own = PyUnicode_AsUTF8AndSize(text, length);
+        if (own != NULL || !PyErr_ExceptionMatches(PyExc_UnicodeEncodeError)) return own;
+        PyErr_Clear();
+        *encoded = PyUnicode_AsEncodedString(text, "utf-8", "surrogatepass");
+        return *encoded == NULL || PyBytes_AsStringAndSize(*encoded, &bytes, length) < 0 ? NULL : bytes;
+    }
 #define WORDS "a network is given as str, or as bytes of a packed address, not as %U"
     int theirs = PyObject_HasAttrString(text, "network_address") || PyObject_HasAttrString(text, "network");
     wrong_type(theirs                                     ? WORDS ": from_ipaddress takes it"
@@ -66,40 +76,34 @@ static PyObject *told_end(const Network *self, ask_end ask) {
     return address_object(self->state, address.octets, address.length);
 }
 
-/* Sets what a new network keeps from the start; 0 with an exception on failure. */
-static int tell(Network *self) {
-    PyObject **place = &self->state->masks[self->held.family == 6][prefix_of(&self->held)];
-    PyObject *mask = kept_at(place);
-    self->mask = mask != NULL ? again(mask) : kept(place, told_end(self, ipnetwork_mask));
-    return self->mask != NULL && (self->least = told_end(self, ipnetwork_network)) != NULL;
-}
-
 static int network_init(PyObject *object, PyObject *arguments, PyObject *names) {
     static char *keywords[] = {"text", NULL};
     Network *self = (Network *)object;
-    PyObject *text;
+    PyObject *text, *encoded = NULL;
     ipnetwork_fault fault;
     if (names == NULL && PyTuple_Size(arguments) == 1) text = PyTuple_GetItem(arguments, 0);
     else if (!PyArg_ParseTupleAndKeywords(arguments, names, "O", keywords, &text)) return -1;
-    char *bytes;
     Py_ssize_t length;
-    if (self->mask != NULL) {
+    if (self->held.family != 0) {
         PyErr_SetString(PyExc_TypeError, "a network is made once, and does not change");
         return -1;
     }
+    ipnetwork_ip held = {.family = family_of(self->state, Py_TYPE(object))};
     if (PyBytes_Check(text)) {
+        char *bytes;
         if (PyBytes_AsStringAndSize(text, &bytes, &length) < 0) return -1;
-        uint8_t width = width_of(&self->held);
-        fault = length == width ? put(&self->held, (const uint8_t *)bytes, (uint8_t)(width * 8)) : IPNETWORK_ADDRESS;
+        uint8_t width = width_of(&held);
+        fault = length == width ? put(&held, (const uint8_t *)bytes, (uint8_t)(width * 8)) : IPNETWORK_ADDRESS;
     } else {
-        PyObject *encoded = bytes_of_text(text);
-        if (encoded == NULL || PyBytes_AsStringAndSize(encoded, &bytes, &length) < 0) return Py_XDECREF(encoded), -1;
-        fault = self->held.family == 4 ? ipnetwork_v4_read(bytes, (size_t)length, &self->held.v4)
-                                       : ipnetwork_v6_read(bytes, (size_t)length, &self->held.v6);
-        Py_DECREF(encoded);
+        const char *bytes = bytes_of_text(text, &length, &encoded);
+        if (bytes == NULL) return Py_XDECREF(encoded), -1;
+        fault = held.family == 4 ? ipnetwork_v4_read(bytes, (size_t)length, &held.v4)
+                                 : ipnetwork_v6_read(bytes, (size_t)length, &held.v6);
+        Py_XDECREF(encoded);
     }
     if (fault != IPNETWORK_OK) return raise_fault(self->state, fault, text), -1;
-    return tell(self) ? 0 : -1;
+    self->held = held;
+    return 0;
 }
 
 /* A network of a class from the bytes of its struct. */
@@ -111,8 +115,9 @@ static PyObject *network_of_row(State *state, PyObject *type, const uint8_t *row
     PyObject *made = allocated(state, (PyTypeObject *)type);
     if (made == NULL) return NULL;
     ipnetwork_ip *held = &((Network *)made)->held;
+    held->family = family_of(state, (PyTypeObject *)type);
     uint8_t width = width_of(held);
-    if (!answered(put(held, row, row[width])) || !tell((Network *)made)) return Py_DECREF(made), NULL;
+    if (!answered(put(held, row, row[width]))) return Py_DECREF(made), NULL;
     return made;
 }
 
@@ -122,11 +127,30 @@ static PyObject *row_of(const ipnetwork_ip *held) {
                              : PyBytes_FromStringAndSize((const char *)&held->v6, sizeof held->v6);
 }
 
+static PyObject *get_least(PyObject *object, void *none) {
+    (void)none;
+    Network *self = (Network *)object;
+    PyObject *told = kept_at(&self->least);
+    if (told != NULL) return again(told);
+    return is_made(self) ? kept(&self->least, told_end(self, ipnetwork_network)) : NULL;
+}
+
+/* The networks of one prefix length share their mask. */
+static PyObject *get_mask(PyObject *object, void *none) {
+    (void)none;
+    Network *self = (Network *)object;
+    if (!is_made(self)) return NULL;
+    PyObject **place = &self->state->masks[self->held.family == 6][prefix_of(&self->held)];
+    PyObject *told = kept_at(place);
+    return told != NULL ? again(told) : kept(place, told_end(self, ipnetwork_mask));
+}
+
 static PyObject *get_ip(PyObject *object, void *none) {
     (void)none;
     Network *self = (Network *)object;
     PyObject *told = kept_at(&self->ip);
     if (told != NULL) return again(told);
+    if (!is_made(self)) return NULL;
     return kept(&self->ip, address_object(self->state, octets_of(&self->held), width_of(&self->held)));
 }
 
@@ -134,12 +158,14 @@ static PyObject *get_greatest(PyObject *object, void *none) {
     (void)none;
     Network *self = (Network *)object;
     PyObject *told = kept_at(&self->greatest);
-    return told != NULL ? again(told) : kept(&self->greatest, told_end(self, ipnetwork_broadcast));
+    if (told != NULL) return again(told);
+    return is_made(self) ? kept(&self->greatest, told_end(self, ipnetwork_broadcast)) : NULL;
 }
 
 static PyObject *get_prefix(PyObject *object, void *none) {
     (void)none;
-    return PyLong_FromLong(prefix_of(&((Network *)object)->held));
+    const Network *self = (const Network *)object;
+    return is_made(self) ? PyLong_FromLong(prefix_of(&self->held)) : NULL;
 }
 
 static PyObject *get_size(PyObject *object, void *none) {
@@ -147,6 +173,7 @@ static PyObject *get_size(PyObject *object, void *none) {
     Network *self = (Network *)object;
     PyObject *told = kept_at(&self->size);
     if (told != NULL) return again(told);
+    if (!is_made(self)) return NULL;
     if (self->held.family == 4) {
         uint64_t size;
         return answered(ipnetwork_v4_size(&self->held.v4, &size)) ? kept(&self->size, PyLong_FromUnsignedLongLong(size)) : NULL;
@@ -158,7 +185,8 @@ static PyObject *get_size(PyObject *object, void *none) {
 
 static PyObject *get_row(PyObject *object, void *none) {
     (void)none;
-    return row_of(&((Network *)object)->held);
+    const Network *self = (const Network *)object;
+    return is_made(self) ? row_of(&self->held) : NULL;
 }
 
 static PyObject *network_text(PyObject *object) {
@@ -167,7 +195,7 @@ static PyObject *network_text(PyObject *object) {
     if (told != NULL) return again(told);
     char buffer[IPNETWORK_V6_TEXT];
     size_t length;
-    if (!answered(ipnetwork_canonical(&self->held, buffer, sizeof buffer, &length))) return NULL;
+    if (!is_made(self) || !answered(ipnetwork_canonical(&self->held, buffer, sizeof buffer, &length))) return NULL;
     return kept(&self->text, PyUnicode_FromStringAndSize(buffer, (Py_ssize_t)length));
 }
 
@@ -175,6 +203,7 @@ static int network_contains(PyObject *object, PyObject *given) {
     ipnetwork_address address;
     uint8_t answer;
     State *state = ((Network *)object)->state;
+    if (!is_made((Network *)object)) return -1;
     int kind = alone_of(state, given, &address);
     if (kind != IS_ADDRESS) return no_member(state, given, kind);
     if (!answered(ipnetwork_contains(&((Network *)object)->held, address.octets, address.length, &answer))) return -1;
@@ -186,7 +215,7 @@ static PyObject *members(Network *self) {
     State *state = self->state;
     PyObject *range = NULL;
     ipnetwork_address least, greatest;
-    if (!answered(ipnetwork_network(&self->held, &least))) return NULL;
+    if (!is_made(self) || !answered(ipnetwork_network(&self->held, &least))) return NULL;
     if (!answered(ipnetwork_broadcast(&self->held, &greatest))) return NULL;
     PyObject *low = number_of_octets(state, least.octets, least.length);
     PyObject *high = number_of_octets(state, greatest.octets, greatest.length);
@@ -210,7 +239,7 @@ static PyObject *network_iter(PyObject *object) {
 static PyObject *network_nth(PyObject *object, PyObject *index) {
     Network *self = (Network *)object;
     uint8_t n[16], address[16];
-    PyObject *number = PyNumber_Index(index), *size, *counted;
+    PyObject *number = is_made(self) ? PyNumber_Index(index) : NULL, *size, *counted;
     if (number == NULL) return NULL;
     if (PyObject_RichCompareBool(number, self->state->zero, Py_LT) == 1) {
         size = get_size(object, NULL);
@@ -236,6 +265,7 @@ static PyObject *network_nth(PyObject *object, PyObject *index) {
 static PyObject *network_compare(PyObject *one_object, PyObject *other_object, int operation) {
     if (PyObject_TypeCheck(other_object, ((Network *)one_object)->state->network_type)) {
         const ipnetwork_ip *one_held = &((Network *)one_object)->held, *other_held = &((Network *)other_object)->held;
+        if (!is_made((Network *)one_object) || !is_made((Network *)other_object)) return NULL;
         if (one_held->family == other_held->family || operation == Py_EQ || operation == Py_NE) {
             int32_t order;
             if (!answered(ipnetwork_compare(one_held, other_held, &order))) return NULL;
@@ -253,6 +283,7 @@ static PyObject *network_compare(PyObject *one_object, PyObject *other_object, i
 
 /* The hash of the octets and the prefix length, mixed so that consecutive networks do not collide. */
 static Py_hash_t network_hash(PyObject *object) {
+    if (!is_made((Network *)object)) return -1;
     const ipnetwork_ip *held = &((Network *)object)->held;
     const uint8_t *octets = octets_of(held);
     uint64_t mixed = prefix_of(held) + UINT64_C(0x9e3779b97f4a7c15);
@@ -267,10 +298,13 @@ static Py_hash_t network_hash(PyObject *object) {
 
 /* Another network, of the same family if `same` is set; NULL with TypeError if it is not one. */
 static Network *another(PyObject *self, PyObject *other, int same) {
-    if (PyObject_TypeCheck(other, ((Network *)self)->state->network_type)
-        && (!same || ((Network *)other)->held.family == ((Network *)self)->held.family))
-        return (Network *)other;
-    raise_shown(((Network *)self)->state, "%U is no network of this package, or of another family", other);
+    Network *one = (Network *)self;
+    if (PyObject_TypeCheck(other, one->state->network_type)) {
+        Network *two = (Network *)other;
+        if (!is_made(one) || !is_made(two)) return NULL;
+        if (!same || two->held.family == one->held.family) return two;
+    }
+    raise_shown(one->state, "%U is no network of this package, or of another family", other);
     return NULL;
 }
 
