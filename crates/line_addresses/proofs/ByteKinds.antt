@@ -1,5 +1,5 @@
 -- The bytes of address texts, as a test.
-use Rattle.line_addresses.proofs.Words.{◌≡◌, ℕ, ◌≤◌, ◌==◌, ◌⊎◌, Bool, true, false, refl, arith, inl, inr, is_in_range, eqb-true, nat_tests, is_address_byte, IsAddressByte, Digit, UpperHex, LowerHex, Dot, Colon}
+use Rattle.line_addresses.proofs.Words.{◌≡◌, ℕ, ◌≤◌, ◌==◌, ◌⊎◌, Bool, true, false, refl, arith, inl, inr, is_in_range, eqb-true, nat_tests, is_address_byte, is_ascii_digit, is_mark, IsAddressByte, Digit, UpperHex, LowerHex, Dot, Colon}
 use Rattle.std.proofs.Common.{◌||◌}
 
 pub passes : (byte : ℕ) → IsAddressByte byte → is_address_byte byte ≡ true
@@ -36,3 +36,12 @@ passed byte e = elim (either_true
           ]
       | inr colon ↦ Colon (eqb-true byte 58 colon)
     ]
+
+pub mark_passes : (byte : ℕ) → is_mark byte ≡ true → is_address_byte byte ≡ true
+mark_passes byte e = elim (either_true (byte == 46) (byte == 58) e) [
+  | inl dot ↦ passes byte (Dot (eqb-true byte 46 dot))
+  | inr colon ↦ passes byte (Colon (eqb-true byte 58 colon))
+]
+
+pub digit_passes : (byte : ℕ) → is_ascii_digit byte ≡ true → is_address_byte byte ≡ true
+digit_passes byte e = let r = in_range 48 57 byte e in passes byte (Digit r.0 r.1)

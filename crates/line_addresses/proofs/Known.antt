@@ -5,6 +5,7 @@ pub use Rattle.line_addresses.proofs.Behind.{no_colon_behind, no_word_before, wo
 pub use Rattle.line_addresses.proofs.ByteKinds.{passed, passes}
 pub use Rattle.line_addresses.proofs.FirstBytes.{named_by_answer, none_in, none_named}
 pub use Rattle.line_addresses.proofs.FirstPositions.{found_at, from_at, inside_name, not_at, nothing_first, nowhere}
+pub use Rattle.line_addresses.proofs.LastBytes.{none_ending}
 pub use Rattle.line_addresses.proofs.LastParts.{first_part, part_counts, part_skipped, parts_before}
 pub use Rattle.line_addresses.proofs.LineParts.{inside}
 pub use Rattle.line_addresses.proofs.NextNetworks.{at_stretch, behind_stretch, ends_stretch, no_network, one_network}
@@ -13,7 +14,7 @@ pub use Rattle.line_addresses.proofs.NextWords.{behind_blank, first_word, later_
 pub use Rattle.line_addresses.proofs.Parts.{no_more_parts, one_part_less, part_from, parts_from}
 pub use Rattle.line_addresses.proofs.Picks.{IsLast, Lies, last_picked, next_picked, one_later}
 pub use Rattle.line_addresses.proofs.Ports.{no_address, no_colon, no_port, ported}
-pub use Rattle.line_addresses.proofs.Shown.{at_rest, at_start, begins, begins_behind, begun_by_other, left, no_rest, none_at_rest, not_begun, nothing_at_rest, shown_by_nothing, some_from}
+pub use Rattle.line_addresses.proofs.Shown.{at_rest, at_start, begins, begins_behind, begun_by_other, left, no_rest, none_at_rest, not_begun, nothing_at_rest, nothing_in, shown_by_nothing, some_from}
 pub use Rattle.line_addresses.proofs.SlashRuns.{at_slash_run, slash_passed}
 pub use Rattle.line_addresses.proofs.StretchNetworks.{marked, network_begins, network_begins_behind, no_mark, no_network_begins, no_slash, none_without, slash_at, whole}
 pub use Rattle.line_addresses.proofs.Values.{all_passed, passed_over, run_first, same_some, stops_here}

@@ -5,6 +5,7 @@ pub mod Examples
 pub mod FirstBytes
 pub mod FirstPositions
 pub mod Known
+pub mod LastBytes
 pub mod LastParts
 pub mod LineParts
 pub mod MappedExamples

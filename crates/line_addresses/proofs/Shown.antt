@@ -40,6 +40,10 @@ nothing_behind = refl
 pub nothing_shown : address_in [] ≡ None
 nothing_shown = not_begun [] nothing_begun ∙ ap begun_by nothing_behind ∙ nothing_begun
 
+pub nothing_in : (run : List ℕ) → length run ≡ 0 → address_in run ≡ None
+nothing_in [] e = nothing_shown
+nothing_in (byte ∷ run) e = absurd (omega (arith, e))
+
 pub some_from : (n : ℕ) → (n == 0) ≡ false → 0 < n
 some_from n e = grind (arith, nat_tests)
 

@@ -11,7 +11,7 @@ pub use Rattle.ipnetwork_addr.specs.Texts.{Colon, Digit, Dot, IsAddressByte, Low
 pub use Rattle.ipnetwork_addr.specs.declared.ip.IpAddr.{IpAddr}
 pub use Rattle.ipnetwork_addr.specs.declared.ip.IpAddr.TheVariants.{V4, V6}
 unfoldable pub use Rattle.line_addresses.specs.Addresses.{address_in, address_of, before_port, begun_by, behind_word}
-pub use Rattle.line_addresses.specs.Addresses.{Spelled, addresses_of, before_mark, ends_with_mark, is_address_byte, is_colon, is_port, is_word, or_else, spelled, with_text}
+pub use Rattle.line_addresses.specs.Addresses.{Spelled, addresses_of, before_mark, ends_with_mark, is_address_byte, is_colon, is_mark, is_port, is_word, or_else, spelled, with_text}
 pub use Rattle.line_addresses.specs.Areas.{IsPicked, each_of, last_of, picked}
 pub use Rattle.line_addresses.specs.Fields.{field_of, fields_of}
 pub use Rattle.line_addresses.specs.Following.{begins_name, begun_by_address, first_run, following, following_from, is_name_byte, opened, opened_from, opens, value_after}

@@ -6,8 +6,8 @@ ghost use Rattle.line_addresses.specs.Following.{begins_name, following, is_name
 use byte_search::find_from;
 
 /// Returns what follows the first occurrence of a text in a line, or `None` if there is none. One
-/// that begins inside a name, of letters, digits, `-`, `.` and `_`, does not count. Each position of
-/// the text's first byte is tried, so the time is at most proportional to the product of both
+/// that begins inside a name, of letters, digits, `-`, `.` and `_`, does not count. Each position
+/// of the text's first byte is tried, so the time is at most proportional to the product of both
 /// lengths.
 ///
 /// ```

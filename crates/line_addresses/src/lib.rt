@@ -13,8 +13,8 @@
 //! a stretch has a `/`, and the whole stretch, or the stretch without a `.` or `:` at its end, is a
 //! network text, or what is behind a word and the first `:` is, then it has this network, and no
 //! part of it counts as an address. Any other stretch has the addresses of its runs. So
-//! `10.1.0.0/16`, `[2001:db8::/32]`, `ip4:10.1.0.0/16` and `10.0.0.0/255.0.0.0.` have a network, and
-//! `http://10.1.1.1/24`, `10.1.1.1/99` and `10.1.1.1/24:80` have an address.
+//! `10.1.0.0/16`, `[2001:db8::/32]`, `ip4:10.1.0.0/16` and `10.0.0.0/255.0.0.0.` have a network,
+//! and `http://10.1.1.1/24`, `10.1.1.1/99` and `10.1.1.1/24:80` have an address.
 //!
 //! Nothing here allocates. A line is a slice of any bytes, of any length.
 #![tactic(auto)]

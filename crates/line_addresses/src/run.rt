@@ -28,7 +28,23 @@ pub(crate) fn run_end(line: &[u8], start: usize) -> usize
 }
 
 /// Returns the address of a run, and the position of its text in the run.
+#[inline(always)]
 pub(crate) fn address_in(run: &[u8]) -> Option<Found>
+    ensures { MatchOption result (address_in run.now ≡ None)
+        (IsPicked (address_in run.now) run.now) }
+{
+    laws::ends_no_address();
+    if run.is_empty() {
+        return None;
+    }
+    if !is_address_byte(run[run.len() - 1]) {
+        return None;
+    }
+    address_within(run)
+}
+
+// Returns the address of a run, and the position of its text in the run, whatever byte ends it.
+fn address_within(run: &[u8]) -> Option<Found>
     ensures { MatchOption result (address_in run.now ≡ None)
         (IsPicked (address_in run.now) run.now) }
 {

@@ -21,7 +21,19 @@ pub(crate) fn run_end(line: &[u8], start: usize) -> usize {
 }
 
 /// Returns the address of a run, and the position of its text in the run.
+#[inline(always)]
 pub(crate) fn address_in(run: &[u8]) -> Option<Found> {
+    if run.is_empty() {
+        return None;
+    }
+    if !is_address_byte(run[run.len() - 1]) {
+        return None;
+    }
+    address_within(run)
+}
+
+// Returns the address of a run, and the position of its text in the run, whatever byte ends it.
+fn address_within(run: &[u8]) -> Option<Found> {
     if let Some((address, size)) = begun_by(run) {
         return Some(Found {
             address,
