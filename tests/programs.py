@@ -60,7 +60,8 @@ def asked(name):
     return program(name), is_plain
 
 
-CAUSES = rb"address|format|prefix|range|byte order mark|UTF-16 text|gzip data|NUL byte|second entry|host bits"
+CAUSES = (rb"address|format|prefix|range|byte order mark|UTF-16 text|gzip data|NUL byte|second entry|host bits|repetition|value: there is none"
+          rb"|second address: with --ranges, FIRST LAST is a range")
 
 
 def with_texts(told, lists):

@@ -55,8 +55,8 @@ is_of families.Either first address = true
 is_of families.V4 first address = is_v4 first
 is_of families.V6 first address = not (is_v4 address)
 
--- the address by which what was found counts as IPv4: the one that is looked up first; with `--networks` and `--mapped`,
--- an IPv4 one only if all addresses of the network are IPv4 or IPv4-mapped
+-- the address by which what was found counts as IPv4: the one that is looked up first; with `--networks` and
+-- `--mapped`, an IPv4 one only if all addresses of the network are IPv4 or IPv4-mapped
 abbrev pub address_asked : Filter → Spelled → IpAddr
 address_asked filter found = if reads_networks filter.listed && filter.mapped
     then address_named found.address (ip_network_of found.text) else asked filter.mapped found.address

@@ -24,8 +24,8 @@ pub entries_and_values : map {B = List ℕ × List ℕ} (λ text. (entry_part te
     ∷ (codes "::1-::9\t-", []) ∷ (codes "::1", codes "- a") ∷ (codes "::1 - ::3 - ::9", codes "a") ∷ []
 entries_and_values = refl
 
--- the first two fields of a line of iptoasn or DB-IP are two addresses, here of 1.0.0.0 to 1.0.0.255, and the others the
--- value behind them
+-- the first two fields of a line of iptoasn or DB-IP are two addresses, here of 1.0.0.0 to 1.0.0.255, and the others
+-- the value behind them
 pub two_fields : map addresses_of (codes "1.0.0.0\t1.0.0.255\t13335\tUS" ∷ codes "1.0.0.0,1.0.0.255,AU" ∷ [])
     ≡ Some (record { first = V4 16777216; second = V4 16777471 })
     ∷ Some (record { first = V4 16777216; second = V4 16777471 }) ∷ []

@@ -69,3 +69,4 @@ module _ (bare ranges : Bool) (line text : List ℕ) (short : length line ≤ 10
   line_fails causes.Value h = absurd h
   line_fails causes.Twice h = absurd h
   line_fails causes.Length h = absurd h
+  line_fails causes.HostBits h = absurd h

@@ -1,5 +1,5 @@
 -- How the lines of a list are taken, one after another.
-use Rattle.cidr_join.proofs.Words.{◌≡◌, ℕ, Bool, true, false, List, [], ◌∷◌, ◌++◌, refl, inr, sym, ap, subst, ◌∙◌, append_assoc, append-nil, Option, None, Some, Result, Ok, Err, OnOk, IfErr, insert, Network, block_of, ReadsEntry, Entry, Pair, trimmed, addresses_of, entry_part, Names, Says, Values, SetsAll, IsGoodEntry, SetsEntry, EntryHasOne, IsRefusal, Keeps, TakesLine, LineFails, ListRules, Networks, RouteFault, Value}
+use Rattle.cidr_join.proofs.Words.{◌≡◌, ℕ, Bool, true, false, List, [], ◌∷◌, ◌++◌, refl, inr, sym, ap, subst, ◌∙◌, append_assoc, append-nil, Option, None, Some, Result, Ok, Err, OnOk, IfErr, insert, Network, block_of, ReadsEntry, Entry, Pair, trimmed, addresses_of, entry_part, Names, Says, Values, SetsAll, IsGoodEntry, SetsEntry, EntryHasOne, IsRefusal, Keeps, TakesLine, LineFails, RefusesLine, refuses, ListRules, Networks, RouteFault, Value}
 use Rattle.lists.specs.declared.entry.Entry.TheVariants as entries
 use Rattle.cidr_join.specs.declared.line.Cause.TheVariants as causes
 use Rattle.cidr_join.specs.declared.routes.RouteFault.TheVariants as routes
@@ -59,6 +59,7 @@ only_memory P (routes.Refused causes.Value) none h = absurd h
 only_memory P (routes.Refused causes.Second) none h = absurd h
 only_memory P (routes.Refused causes.Twice) none h = absurd (none h)
 only_memory P (routes.Refused causes.Length) none h = absurd h
+only_memory P (routes.Refused causes.HostBits) none h = absurd h
 
 -- ---- one line
 
@@ -78,26 +79,33 @@ good_said bare ranges line entry value says =
     good_named ranges (trimmed line) (addresses_of (trimmed line)) entry value.bytes.now says.1
 
 pub line_set : {T E : Type 0} (result : Result T E) (rules : ListRules) (before after : Networks) (line : List ℕ)
-    (entry : Entry) (value : Value) → Says rules.bare rules.ranges line entry value
+    (entry : Entry) (value : Value) → Says rules.bare rules.ranges line entry value → refuses rules entry ≡ false
     → OnOk result (SetsEntry rules.last_wins before entry value after) → OnOk result (TakesLine rules before line after)
-line_set (Ok done) rules before after line entry value says h = inr (entry, value, says, h)
-line_set (Err fault) rules before after line entry value says h = tt
+line_set (Ok done) rules before after line entry value says allowed h = inr (entry, value, says, (allowed, h))
+line_set (Err fault) rules before after line entry value says allowed h = tt
 
 fault_has : (fault : RouteFault) (rules : ListRules) (before : Networks) (line : List ℕ) (entry : Entry) (value : Value)
-    → Says rules.bare rules.ranges line entry value
+    → Says rules.bare rules.ranges line entry value → refuses rules entry ≡ false
     → IsRefusal (EntryHasOne rules.last_wins before entry) fault → LineFails rules before line fault
-fault_has routes.OutOfMemory rules before line entry value says h = tt
-fault_has (routes.Refused (causes.Entry fault)) rules before line entry value says h = absurd h
-fault_has (routes.Refused causes.Value) rules before line entry value says h = absurd h
-fault_has (routes.Refused causes.Second) rules before line entry value says h = absurd h
-fault_has (routes.Refused causes.Twice) rules before line entry value says h = (entry, value, says, h)
-fault_has (routes.Refused causes.Length) rules before line entry value says h = absurd h
+fault_has routes.OutOfMemory rules before line entry value says allowed h = tt
+fault_has (routes.Refused (causes.Entry fault)) rules before line entry value says allowed h = absurd h
+fault_has (routes.Refused causes.Value) rules before line entry value says allowed h = absurd h
+fault_has (routes.Refused causes.Second) rules before line entry value says allowed h = absurd h
+fault_has (routes.Refused causes.Twice) rules before line entry value says allowed h = (entry, value, says, (allowed, h))
+fault_has (routes.Refused causes.Length) rules before line entry value says allowed h = absurd h
+fault_has (routes.Refused causes.HostBits) rules before line entry value says allowed h = absurd h
 
 pub line_has : {T : Type 0} (result : Result T RouteFault) (rules : ListRules) (before : Networks) (line : List ℕ)
-    (entry : Entry) (value : Value) → Says rules.bare rules.ranges line entry value
+    (entry : Entry) (value : Value) → Says rules.bare rules.ranges line entry value → refuses rules entry ≡ false
     → IfErr result (IsRefusal (EntryHasOne rules.last_wins before entry)) → IfErr result (LineFails rules before line)
-line_has (Ok done) rules before line entry value says h = tt
-line_has (Err fault) rules before line entry value says h = fault_has fault rules before line entry value says h
+line_has (Ok done) rules before line entry value says allowed h = tt
+line_has (Err fault) rules before line entry value says allowed h =
+    fault_has fault rules before line entry value says allowed h
+
+pub host_bits_said : (rules : ListRules) (before : Networks) (line : List ℕ) (entry : Entry) (value : Value)
+    → Says rules.bare rules.ranges line entry value → refuses rules entry ≡ true
+    → RefusesLine rules before line causes.HostBits
+host_bits_said rules before line entry value says loose = (entry, value, says, loose)
 
 -- what follows from what a line says
-pub ruleset line_said = (good_said, line_set, line_has)
+pub ruleset line_said = (good_said, line_set, line_has, host_bits_said)

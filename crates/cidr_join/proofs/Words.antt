@@ -16,7 +16,7 @@ pub use Rattle.cidr_join.specs.Private.Numbering.{AddsNumbers, AnswersOver, AreN
 pub use Rattle.cidr_join.specs.Private.TallyProgress.{CountsAll, CountsAsked, CountsLine, CountsLog, CountsNames, CountsSoFar, FailsReading, IsCounted, LineNotCounted, StopsCounting, TellsUncounted}
 pub use Rattle.cidr_join.specs.Routes.{EntryHasOne, IsGoodEntry, IsRefusal, Keeps, SetsAll, SetsEntry, Values, no_networks, one_has}
 pub use Rattle.cidr_join.specs.Runs.{DoesRequest, EndsAsked, EndsBy, EndsFiles, EndsGrouping, EndsJoining, EndsTally, JoinsLogs, LacksMemory, RunsOut, answers_by, answers_of, lacks_tally, lengths_of, rules_of, status_by}
-pub use Rattle.cidr_join.specs.Takes.{Takes, TakesLine}
+pub use Rattle.cidr_join.specs.Takes.{RefusesLine, Takes, TakesLine, refuses}
 pub use Rattle.cidr_join.specs.Tallies.{IsTally, Row, count_of, counted_by, named, row_cmp, row_text, rows_text}
 pub use Rattle.cidr_join.specs.declared.answers.Answers.{Answers}
 pub use Rattle.cidr_join.specs.declared.counts.Counts.{Counts}

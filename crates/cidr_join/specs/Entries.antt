@@ -111,8 +111,8 @@ SaysSomething line = (length line ≤ 1024) × (is_skipped (trimmed line) ≡ fa
 abbrev pub NamesOne : List ℕ → Entry → List ℕ → Type 0
 NamesOne text entry value = ReadsEntry (entry_part text) (Ok (Some entry)) × (value ≡ value_of text)
 
--- what a text that begins with these two addresses, if with two, names, and its value: with `ranges`, the range from one
--- to the other; without, if they are of two families, the first
+-- what a text that begins with these two addresses, if with two, names, and its value: with `ranges`, the range from
+-- one to the other; without, if they are of two families, the first
 abbrev pub Names : Bool → List ℕ → Option Pair → Entry → List ℕ → Type 0
 Names true text (Some pair) entry value = (entry ≡ entries.Range pair.first pair.second) × IsRange pair.first pair.second
     × (value ≡ value_behind (value_of text))
@@ -138,6 +138,7 @@ NamesNone ranges text pair causes.Second = (ranges ≡ false) × (are_alike pair
 NamesNone ranges text pair causes.Value = ⊥
 NamesNone ranges text pair causes.Twice = ⊥
 NamesNone ranges text pair causes.Length = ⊥
+NamesNone ranges text pair causes.HostBits = ⊥
 
 -- why a line that says something names nothing
 abbrev pub SaysNone : Bool → List ℕ → Cause → Type 0
@@ -151,6 +152,7 @@ LineFaults bare ranges line causes.Second = SaysNone ranges line causes.Second
 LineFaults bare ranges line causes.Value = (bare ≡ false) × SaysSomething line
     × ((entry : Entry) × Names ranges (trimmed line) (addresses_of (trimmed line)) entry [])
 LineFaults bare ranges line causes.Twice = ⊥
+LineFaults bare ranges line causes.HostBits = ⊥
 
 -- what reading a line returns
 abbrev pub ReadsRoute : Bool → Bool → List ℕ → Result (Option RouteEntry) Cause → Type 0

@@ -29,8 +29,8 @@ abbrev pub network_in : Join → List ℕ → Option IpNetwork
 network_in join line =
     network_of_found join.networks (picked_in join.networks join.area.pick (part_of join.area.part line))
 
--- what is found for a network: the value of the longest network of the list that contains it, or that network, or nothing; or,
--- with `--group`, the block that contains it, if one does
+-- what is found for a network: the value of the longest network of the list that contains it, or that network, or
+-- nothing; or, with `--group`, the block that contains it, if one does
 abbrev pub FindsBy : Answers → IpNetwork → Found → Type 0
 FindsBy (answers.Values routes) asked (founds.Network network) = ⊥
 FindsBy (answers.Values routes) asked (founds.Value value) = (network : IpNetwork)

@@ -97,6 +97,7 @@ IsRefusal repeated (faults.Refused causes.Value) = ⊥
 IsRefusal repeated (faults.Refused causes.Second) = ⊥
 IsRefusal repeated (faults.Refused causes.Twice) = repeated
 IsRefusal repeated (faults.Refused causes.Length) = ⊥
+IsRefusal repeated (faults.Refused causes.HostBits) = ⊥
 
 -- a line that is refused changes nothing
 abbrev pub Keeps : {A : Type 0} → A → A → RouteFault → Type 0

@@ -91,12 +91,13 @@ abbrev pub EndsAsked : {W E : Type 0} → KnownLists → List Item → Answers �
 EndsAsked known items by end = EndsBy (is_given items own.tally) (join_of items by) known (inputs_of items) end
 
 -- how the lines of the lists are taken: with `--network` a value may be missing, with `--ranges` two addresses are a
--- range, with `--skip-bad` refused lines are left out
+-- range, with `--strict` networks with host bits are refused, with `--skip-bad` refused lines are left out
 abbrev pub rules_of : List Item → ListRules
 rules_of items = record {
   last_wins = is_given items own.last_wins;
   bare = is_given items own.network;
   ranges = is_given items own.ranges;
+  strict = is_given items own.strict;
   skips = is_given items own.skips_bad;
 }
 

@@ -18,6 +18,7 @@ Prints the lines of logs, each with the value that a list gives its address.
                     the second one is refused
     --skip-bad      report refused lines of the lists and use the others; without this option, the
                     first refused line ends the program before any log is read
+    --strict        refuse networks of the lists with host bits (10.0.0.5/8)
     --ranges        a line FIRST LAST VALUE, separated by spaces, tabs or commas, as iptoasn and
                     DB-IP have it, is the range from FIRST to LAST; without this option, a line in
                     which an address of the same family follows an address is refused",
@@ -41,7 +42,7 @@ Prints the lines of logs, each with the value that a list gives its address.
                     networks, with the number 0. Only with --tally
     --group N,M     use no list: print before each line the block of length N that has its address,
                     or for IPv6 that of length M: --group 24,64. Not with -f, --network,
-                    --last-wins, --ranges, --skip-bad or --zero
+                    --last-wins, --ranges, --skip-bad, --strict or --zero
     --bad drop      a line without an address is neither printed nor counted, and lines that are too
                     long are not reported
     --bad keep      it is printed after a minus sign (the default)
@@ -85,5 +86,5 @@ pub(crate) const PROGRAM: &str = "cidr_join";
 pub(crate) const USAGE: &str =
     "usage: cidr_join [--after TEXT | [-a] [-k N] [-d CHAR | -w]] [--nth first|last|N] [--mapped] \
      [--networks] [--bad drop|keep|stop|report] [--last | --tally [--zero]] \
-     (-f LIST.. [--network] [--last-wins] [--ranges] [--skip-bad] | --group N,M) [FILE..]; \
-     try --help\n";
+     (-f LIST.. [--network] [--last-wins] [--ranges] [--strict] [--skip-bad] | --group N,M) \
+     [FILE..]; try --help\n";

@@ -2,18 +2,17 @@
 ghost use Rattle.std.specs.Prelude.{◌≡◌, ◌==◌, ◌<◌, ◌+◌, ◌^◌, ◌∷◌, [], IfErr, OnOk};
 ghost use Rattle.std.specs.List.{slice_split};
 ghost use Rattle.cidr_join.specs.Routes.{IsGoodEntry, SetsEntry, EntryHasOne, IsRefusal, Keeps};
-ghost use Rattle.cidr_join.specs.Takes.{TakesLine};
+ghost use Rattle.cidr_join.specs.Takes.{TakesLine, refuses};
 ghost use Rattle.cidr_join.specs.Private.Listing.{nothing_taken, left_out, EndsLines, GoesOn, LineFails};
 
-use crate::help::PROGRAM;
 use crate::line::{Cause, read_route};
 use crate::routes::{Networks, RouteFault, set_one, set_range};
+use crate::telling::tell_refused;
 use crate::value::Value;
 use byte_search::find_from;
 use ipnetwork::{IpAddr, IpNetwork};
 use lines::output::Output;
-use lists::Entry;
-use program::log_fault::tell_line;
+use lists::{Entry, has_host_bits};
 use std::alloc::Global;
 use std::io::Write;
 
@@ -26,15 +25,28 @@ pub struct ListRules {
     pub bare: bool,
     /// A line `FIRST LAST` is a range, and is not refused.
     pub ranges: bool,
+    /// A network with host bits is refused: `10.0.0.5/8`.
+    pub strict: bool,
     /// A refused line is reported and left out, and is not a fault.
     pub skips: bool,
 }
 
+impl ListRules {
+    // Returns whether an entry is refused for its host bits.
+    fn refuses(self, entry: &Entry) -> bool
+        ensures { result ≡ refuses self entry.now }
+    {
+        self.strict && has_host_bits(entry)
+    }
+}
+
 /// Why a list is not taken to its end: a fault of one of its lines.
-#[derive(Clone, Copy, Debug, PartialEq, Eq)]
-pub struct TakeFault {
+#[derive(Clone, Copy, Debug)]
+pub struct TakeFault<'a> {
     /// How many lines come before that line.
     pub lines: usize,
+    /// The line.
+    pub line: &'a [u8],
     /// The fault.
     pub fault: RouteFault,
 }
@@ -85,7 +97,7 @@ pub(crate) fn take_list<'a, E: Write>(
     text: &'a [u8],
     rules: ListRules,
     errors: &mut Output<'_, E>,
-) -> Result<(), TakeFault>
+) -> Result<(), TakeFault<'a>>
     ensures ok { OnOk result (GoesOn rules listing.old.networks listing.new.networks
         (slice_split (λ b. b == 10) text.now)) }
     ensures err { IfErr result (λ fault. EndsLines rules listing.old.networks
@@ -109,7 +121,7 @@ fn take_next<'a, E: Write>(
     line: &'a [u8],
     rules: ListRules,
     errors: &mut Output<'_, E>,
-) -> Result<(), TakeFault>
+) -> Result<(), TakeFault<'a>>
     requires { listing.old.lines + 1 < 2 ^ 64 }
     ensures ok { OnOk result
         (GoesOn rules listing.old.networks listing.new.networks (line.now ∷ [])) }
@@ -123,10 +135,10 @@ fn take_next<'a, E: Write>(
         Ok(()) => Ok(()),
         Err(fault) => match left_out(rules, fault) {
             Some(cause) => {
-                skip(&mut listing.skipped, name, lines, cause, errors);
+                skip(&mut listing.skipped, name, lines, line, cause, errors);
                 Ok(())
             }
-            None => Err(TakeFault { lines, fault }),
+            None => Err(TakeFault { lines, line, fault }),
         },
     }
 }
@@ -147,12 +159,13 @@ fn skip<E: Write>(
     skipped: &mut u64,
     name: &str,
     lines: usize,
+    line: &[u8],
     cause: Cause,
     errors: &mut Output<'_, E>,
 ) {
     *skipped = skipped.saturating_add(1);
     if *skipped <= TOLD_MAX {
-        tell_line(PROGRAM, name, lines as u64, cause.text(), errors);
+        tell_refused(name, lines, line, cause, errors);
     }
 }
 
@@ -169,6 +182,7 @@ fn take_line<'a>(
 {
     match read_route(line, rules.bare, rules.ranges) {
         Ok(None) => Ok(()),
+        Ok(Some(said)) if rules.refuses(&said.entry) => Err(RouteFault::Refused(Cause::HostBits)),
         Ok(Some(said)) => set_entry(networks, said.entry, said.value, rules.last_wins),
         Err(cause) => Err(RouteFault::Refused(cause)),
     }

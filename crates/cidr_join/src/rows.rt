@@ -34,8 +34,11 @@ pub(crate) const NETWORKS: usize = 18;
 /// The row of `--ranges`.
 pub(crate) const RANGES: usize = 19;
 
+/// The row of `--strict`.
+pub(crate) const STRICT: usize = 20;
+
 // The options.
-const ROWS: [Row; 21] = log_rows![
+const ROWS: [Row; 22] = log_rows![
     long!("--last", Flag, false, ""),
     long!("--last-wins", Flag, false, ""),
     long!("--network", Flag, false, ""),
@@ -51,43 +54,26 @@ const ROWS: [Row; 21] = log_rows![
     long!("--skip-bad", Flag, false, ""),
     long!("--networks", Flag, false, ""),
     long!("--ranges", Flag, false, ""),
+    long!("--strict", Flag, false, ""),
 ];
 
+// What is reported about `--group` with an option about a list.
+const GROUP_ALONE: &str =
+    "--group goes with none of -f, --network, --last-wins, --ranges, --skip-bad, --strict and \
+     --zero";
+
 // The options that may not be given together.
-const PAIRS: [Pair; 12] = log_pairs![
+const PAIRS: [Pair; 13] = log_pairs![
     [],
     [
         pair!(TALLY, LAST, "--last does not go with --tally"),
-        pair!(
-            GROUP,
-            LIST,
-            "--group goes with none of -f, --network, --last-wins, --ranges, --skip-bad and --zero"
-        ),
-        pair!(
-            GROUP,
-            NETWORK,
-            "--group goes with none of -f, --network, --last-wins, --ranges, --skip-bad and --zero"
-        ),
-        pair!(
-            GROUP,
-            LAST_WINS,
-            "--group goes with none of -f, --network, --last-wins, --ranges, --skip-bad and --zero"
-        ),
-        pair!(
-            GROUP,
-            ZERO,
-            "--group goes with none of -f, --network, --last-wins, --ranges, --skip-bad and --zero"
-        ),
-        pair!(
-            GROUP,
-            RANGES,
-            "--group goes with none of -f, --network, --last-wins, --ranges, --skip-bad and --zero"
-        ),
-        pair!(
-            GROUP,
-            SKIPS_BAD,
-            "--group goes with none of -f, --network, --last-wins, --ranges, --skip-bad and --zero"
-        ),
+        pair!(GROUP, LIST, GROUP_ALONE),
+        pair!(GROUP, NETWORK, GROUP_ALONE),
+        pair!(GROUP, LAST_WINS, GROUP_ALONE),
+        pair!(GROUP, ZERO, GROUP_ALONE),
+        pair!(GROUP, RANGES, GROUP_ALONE),
+        pair!(GROUP, SKIPS_BAD, GROUP_ALONE),
+        pair!(GROUP, STRICT, GROUP_ALONE),
     ],
 ];
 

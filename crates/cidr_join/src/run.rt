@@ -15,7 +15,7 @@ use crate::logs::join_logs;
 use crate::reading::{ReadList, read_lists, take_lists};
 use crate::routes::Routes;
 use crate::rows::{
-    BAD, GROUP, LAST, LAST_WINS, NETWORK, NETWORKS, RANGES, SKIPS_BAD, TALLY, ZERO, table,
+    BAD, GROUP, LAST, LAST_WINS, NETWORK, NETWORKS, RANGES, SKIPS_BAD, STRICT, TALLY, ZERO, table,
 };
 use crate::tally_logs::tally_logs;
 use lines::output::Output;
@@ -154,6 +154,7 @@ fn rules_of(items: &[Item<'_>]) -> ListRules
         last_wins: is_given(items, LAST_WINS),
         bare: is_given(items, NETWORK),
         ranges: is_given(items, RANGES),
+        strict: is_given(items, STRICT),
         skips: is_given(items, SKIPS_BAD),
     }
 }

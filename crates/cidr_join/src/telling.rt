@@ -3,14 +3,17 @@ ghost use Rattle.cidr_join.specs.Private.Listing.{TellsUnread, TellsUntaken};
 
 use crate::help::PROGRAM;
 use crate::join::Join;
+use crate::line::{Cause, entry_text};
 use crate::list::TakeFault;
 use crate::routes::RouteFault;
+use ipnetwork::IpNetwork;
 use lines::output::Output;
-use lists::BytesFault;
+use lists::{BytesFault, EntryFault, Excerpt, LineFault, meant};
 use log_programs::log_stats::LogStats;
 use log_programs::telling::tell_lacking;
-use program::log_fault::{tell_fault_of, tell_line};
-use program::messages::tell_of;
+use program::escapes::tell_escaped;
+use program::log_fault::tell_fault_of;
+use program::messages::{tell, tell_head, tell_number, tell_of};
 use std::io::Write;
 
 /// Reports why the list with this name was not read.
@@ -40,13 +43,73 @@ pub(crate) fn tell_unaddressed<E: Write>(
 }
 
 /// Reports why the list with this name was not taken to its end.
-pub(crate) fn tell_take_fault<E: Write>(name: &str, fault: TakeFault, errors: &mut Output<'_, E>)
-    ensures { TellsUntaken fault.fault errors.new }
+pub(crate) fn tell_take_fault<E: Write>(
+    name: &str,
+    fault: TakeFault<'_>,
+    errors: &mut Output<'_, E>,
+)
+    ensures { TellsUntaken fault.entry.fault errors.new }
 {
     match fault.fault {
         RouteFault::OutOfMemory => tell_of(PROGRAM, ": out of memory\n", errors),
-        RouteFault::Refused(cause) => {
-            tell_line(PROGRAM, name, fault.lines as u64, cause.text(), errors)
-        }
+        RouteFault::Refused(cause) => { tell_refused(name, fault.lines, fault.line, cause, errors) }
+    }
+}
+
+/// Reports that a line of the list with this name, after this many others, is refused, and why, the
+/// beginning of its text, and what would do in place of its network.
+pub(crate) fn tell_refused<E: Write>(
+    name: &str,
+    lines: usize,
+    line: &[u8],
+    cause: Cause,
+    errors: &mut Output<'_, E>,
+) {
+    tell_head(PROGRAM, name, errors);
+    tell(":", errors);
+    tell_number((lines as u64).saturating_add(1), errors);
+    tell(": refused ", errors);
+    tell(cause.text(), errors);
+    tell_text(&excerpt_of(line, cause), errors);
+    tell_meant(meant_in(line, cause), errors);
+    tell("\n", errors);
+}
+
+// Returns the beginning of a line that is refused for this: nothing of one that is too long.
+fn excerpt_of(line: &[u8], cause: Cause) -> Excerpt {
+    match cause {
+        Cause::Length => Excerpt::empty(),
+        _ => Excerpt::of(line.strip_suffix(b"\r").unwrap_or(line)),
+    }
+}
+
+// Returns the network that is probably meant in a line that is refused for this.
+fn meant_in(line: &[u8], cause: Cause) -> Option<IpNetwork> {
+    let fault = match cause {
+        Cause::Entry(fault) => fault,
+        Cause::HostBits => EntryFault::HostBits,
+        _ => return None,
+    };
+    meant(LineFault::Entry(fault), entry_text(line))
+}
+
+// Reports the beginning of a text, unless the text is empty.
+fn tell_text<E: Write>(text: &Excerpt, errors: &mut Output<'_, E>) {
+    if text.bytes().is_empty() {
+        return;
+    }
+    tell(": ", errors);
+    tell_escaped(text.bytes(), errors);
+    if text.is_cut() {
+        tell("..", errors);
+    }
+}
+
+// Reports the network that is probably meant.
+fn tell_meant<E: Write>(network: Option<IpNetwork>, errors: &mut Output<'_, E>) {
+    if let Some(network) = network {
+        tell(" (write ", errors);
+        tell(network.canonical().as_str(), errors);
+        tell(")", errors);
     }
 }

@@ -1,6 +1,6 @@
 //! What the programs that read logs share: where to look for the addresses of a line, the address
-//! of a line, the network that is looked up for one of a line, the counts of the lines of a log, and
-//! the reports about a log.
+//! of a line, the network that is looked up for one of a line, the counts of the lines of a log,
+//! and the reports about a log.
 #![tactic(auto)]
 
 pub mod areas;

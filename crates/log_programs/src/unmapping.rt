@@ -4,8 +4,9 @@ ghost use Rattle.log_programs.specs.Unmapping.{asked_network, unmapped_network};
 
 use ipnetwork::{IpAddr, IpNetwork};
 
-/// Returns the network that is looked up: if `mapped`, a network whose addresses are all IPv4-mapped
-/// counts as the network of their IPv4 addresses. Any other network is returned unchanged.
+/// Returns the network that is looked up: if `mapped`, a network whose addresses are all
+/// IPv4-mapped counts as the network of their IPv4 addresses. Any other network is returned
+/// unchanged.
 ///
 /// ```
 /// use ipnetwork::IpNetwork;

@@ -141,7 +141,8 @@ impl Tables {
     }
 }
 
-/// Returns the address that is looked up first: if `mapped`, the IPv4 address of an IPv4-mapped one.
+/// Returns the address that is looked up first: if `mapped`, the IPv4 address of an IPv4-mapped
+/// one.
 #[inline(always)]
 pub(crate) fn asked(mapped: bool, address: IpAddr) -> IpAddr {
     if mapped {

@@ -19,6 +19,8 @@ pub enum Cause {
     Twice,
     /// It has more than 1,024 bytes.
     Length,
+    /// Its network has host bits, and such networks are refused (`ListRules`).
+    HostBits,
 }
 
 impl Cause {
@@ -30,6 +32,7 @@ impl Cause {
             Cause::Second => "second address: with --ranges, FIRST LAST is a range",
             Cause::Twice => "repetition",
             Cause::Length => "length",
+            Cause::HostBits => "host bits",
         }
     }
 }
@@ -66,6 +69,12 @@ pub(crate) fn read_route(
         return Err(Cause::Value);
     }
     Ok(Some(said))
+}
+
+/// Returns the text of the network or range of a line, for messages; no clause says what it is.
+pub(crate) fn entry_text(line: &[u8]) -> &[u8] {
+    let text = trim::<Blank>(line);
+    &text[..entry_len(text)]
 }
 
 // Returns the network or range that a text begins with, and the value behind it, or why there is

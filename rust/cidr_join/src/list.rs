@@ -2,15 +2,14 @@
 
 //! Takes the networks of lists with their values.
 
-use crate::help::PROGRAM;
 use crate::line::{Cause, read_route};
 use crate::routes::{Networks, RouteFault, set_one, set_range};
+use crate::telling::tell_refused;
 use crate::value::Value;
 use fosibegan_core::byte_search::find_from;
 use fosibegan_core::ipnetwork::{IpAddr, IpNetwork};
 use cidr_programs::lines::output::Output;
-use cidr_programs::lists::Entry;
-use cidr_programs::program::log_fault::tell_line;
+use cidr_programs::lists::{Entry, has_host_bits};
 use fosibegan_core::plain_std::alloc::Global;
 use fosibegan_core::plain_std::io::Write;
 
@@ -23,15 +22,26 @@ pub struct ListRules {
     pub bare: bool,
     /// A line `FIRST LAST` is a range, and is not refused.
     pub ranges: bool,
+    /// A network with host bits is refused: `10.0.0.5/8`.
+    pub strict: bool,
     /// A refused line is reported and left out, and is not a fault.
     pub skips: bool,
 }
 
+impl ListRules {
+    // Returns whether an entry is refused for its host bits.
+    fn refuses(self, entry: &Entry) -> bool {
+        self.strict && has_host_bits(entry)
+    }
+}
+
 /// Why a list is not taken to its end: a fault of one of its lines.
-#[derive(Clone, Copy, Debug, PartialEq, Eq)]
-pub struct TakeFault {
+#[derive(Clone, Copy, Debug)]
+pub struct TakeFault<'a> {
     /// How many lines come before that line.
     pub lines: usize,
+    /// The line.
+    pub line: &'a [u8],
     /// The fault.
     pub fault: RouteFault,
 }
@@ -77,7 +87,7 @@ pub(crate) fn take_list<'a, E: Write>(
     text: &'a [u8],
     rules: ListRules,
     errors: &mut Output<'_, E>,
-) -> Result<(), TakeFault> {
+) -> Result<(), TakeFault<'a>> {
     listing.lines = 0;
     let mut at = 0;
     'lines: while let Some(end) = find_from(text, at, b'\n') {
@@ -96,17 +106,17 @@ fn take_next<'a, E: Write>(
     line: &'a [u8],
     rules: ListRules,
     errors: &mut Output<'_, E>,
-) -> Result<(), TakeFault> {
+) -> Result<(), TakeFault<'a>> {
     let lines = listing.lines;
     listing.lines += 1;
     match take_line(&mut listing.networks, line, rules) {
         Ok(()) => Ok(()),
         Err(fault) => match left_out(rules, fault) {
             Some(cause) => {
-                skip(&mut listing.skipped, name, lines, cause, errors);
+                skip(&mut listing.skipped, name, lines, line, cause, errors);
                 Ok(())
             }
-            None => Err(TakeFault { lines, fault }),
+            None => Err(TakeFault { lines, line, fault }),
         },
     }
 }
@@ -125,12 +135,13 @@ fn skip<E: Write>(
     skipped: &mut u64,
     name: &str,
     lines: usize,
+    line: &[u8],
     cause: Cause,
     errors: &mut Output<'_, E>,
 ) {
     *skipped = skipped.saturating_add(1);
     if *skipped <= TOLD_MAX {
-        tell_line(PROGRAM, name, lines as u64, cause.text(), errors);
+        tell_refused(name, lines, line, cause, errors);
     }
 }
 
@@ -142,6 +153,7 @@ fn take_line<'a>(
 ) -> Result<(), RouteFault> {
     match read_route(line, rules.bare, rules.ranges) {
         Ok(None) => Ok(()),
+        Ok(Some(said)) if rules.refuses(&said.entry) => Err(RouteFault::Refused(Cause::HostBits)),
         Ok(Some(said)) => set_entry(networks, said.entry, said.value, rules.last_wins),
         Err(cause) => Err(RouteFault::Refused(cause)),
     }
