@@ -48,6 +48,15 @@ AZURE = {
     ],
 }
 
+GITHUB = {
+    "verifiable_password_authentication": False,
+    "ssh_key_fingerprints": {"SHA256_ED25519": "+DiY3wvvV6TuJJhbpZisF/zLDA0zPMSvHdkr4UvCOqU"},
+    "ssh_keys": ["ssh-ed25519 AAAAC3NzaC1lZDI1NTE5AAAAIOMqqnkVzrm0SdG6UOoqKLsabgH5C9okWi0dh2l9GKJl"],
+    "hooks": ["192.30.252.0/22", "2606:50c0::/32"],
+    "web": ["192.30.252.0/22", "20.201.28.151/32"],
+    "domains": {"actions": ["*.actions.githubusercontent.com"], "hooks": None},
+}
+
 # Strings that name no entry, though some have one in them.
 OTHERS = [
     "", " ", "us-east-1", "AMAZON", "2024-04-05-19-34-38", "10.0.0.0/33", "10.0.0", "10.0.0.0/8 ", "10.0.0.0/8 # office",
@@ -187,6 +196,7 @@ def documents(program, folder):
     told = b"-:2: refused length: 10.0.0.0/" + b"0" * 55 + b"..\n"
     yield "a long string", run(program, ["union", "--json", "-"], folder, text), (2, b"", told)
     yield from refused(program, folder)
+    yield from of_fields(program, folder)
     yield from of_length(program, folder)
 
     for seed in range(150):
@@ -233,13 +243,83 @@ def refused(program, folder):
 
 
 # The first byte of a document and what follows it for a megabyte, which takes much memory in a tree of values. Plain Rust
-# gets 32 bytes for each byte, and 16 MiB for the program and the bytes themselves; or little, too little for strings.
+# gets 64 bytes for each byte, and 16 MiB for the program and the bytes themselves; or little, too little for the values.
 HEAVY = [
     (b"[", b"0,"), (b"[", b"[],"), (b"[", b'"",'), (b"[", b'[""],'), (b"[", b"[" * 125 + b'""' + b"]" * 125 + b","),
     (b"[", b'"\\n",'), (b"[", b'{"":""},'), (b"[", b'{"a":1},'), (b"{", b'"":0,'), (b"{", b'"":"",'),
 ]  # fmt: skip
 HEAVY_LENGTH = 1 << 20
-HEAVY_KIB, LITTLE_KIB = (16 + 32) << 10, 8 << 10
+HEAVY_KIB, LITTLE_KIB = (16 + 64) << 10, 8 << 10
+
+
+def fields_of(names, value, within=False):
+    """The values of members with one of the names, and the elements of arrays that are such values, in their order."""
+    if isinstance(value, list):
+        for each in value:
+            yield from fields_of(names, each, within)
+    elif isinstance(value, dict):
+        for key in sorted(value):
+            yield from fields_of(names, value[key], key in names)
+    elif within and value is not None:
+        yield value
+
+
+def of_fields(program, folder):
+    """`--json-field`: documents in the shapes of providers, made-up ones, and what has no such field; JSON Lines."""
+    write(folder, "github", json.dumps(GITHUB, indent=2).encode())
+    all_of = {"aws": AWS, "google": GOOGLE, "azure": AZURE, "github": GITHUB}
+    for name, names in [
+        ("aws", ["ip_prefix"]), ("aws", ["ipv6_prefix", "ip_prefix"]), ("google", ["ipv4Prefix", "ipv6Prefix"]), ("google", ["ipv6Prefix"]),
+        ("azure", ["addressPrefixes"]), ("github", ["hooks"]), ("github", ["web", "hooks"]),
+    ]:  # fmt: skip
+        words = ["union", *(f"--json-field={one}" for one in names), name]
+        yield " ".join(words), run(program, words, folder), (0, union([list(fields_of(names, all_of[name]))]), b"")
+    no_field = b"%s: no field of a name that is given\n"
+    for words, data, wanted in [
+        ("union --json-field ip_prefixes aws", b"", (2, b"", no_field % b"aws")),
+        ("union --json-field ip_prefi aws", b"", (2, b"", no_field % b"aws")),
+        ("union --json-field IP_PREFIX aws", b"", (2, b"", no_field % b"aws")),
+        ("union --skip-bad --allow-empty --format nft --json-field ip_prefix -", b'{"message":"rate limited"}', (2, b"", no_field % b"-")),
+        ("union --json-field ip_prefix aws google", b"", (2, b"", no_field % b"google")),
+        ("minus --json-field ip_prefix aws -- google", b"", (2, b"", no_field % b"google")),
+        ("union --json-field region aws", b"", (2, b"", b"aws:1: refused address: GLOBAL\naws:2: refused address: ap-northeast-2\n"
+         b"aws:3: refused address: us-east-1\naws:4: refused address: us-east-1\n")),
+        ("union --json-field regionId azure", b"", (2, b"", b"azure:1: refused address: a number\n")),
+        ("union --json-field verifiable_password_authentication github", b"", (2, b"", b"github:1: refused address: a boolean\n")),
+        ("union --json-field domains github", b"", (0, b"", b"")),
+        ("union --json-field hooks --strict -", b'{"hooks": ["10.0.0.5/8"], "web": ["10.0.0.5/8"]}',
+         (2, b"", b"-:1: refused host bits: 10.0.0.5/8 (write 10.0.0.0/8)\n")),
+        ("union --json-field hooks -", b'{"hooks": ["10.0.0.5/8"], "web": ["x"]}', (0, b"10.0.0.0/8\n", b"")),
+        ("union --json-field a -e ::1 -", b'{"\\u0061": "10.0.0.0/8"}', (0, b"10.0.0.0/8\n::1/128\n", b"")),
+        ("union --json-field a -", b'{"a": "x", "a": "10.0.0.0/8"}', (0, b"10.0.0.0/8\n", b"")),
+        ("union --json-field= -", b"", None),
+        ("union --json -", b'"10.0.0.0/8"\n\n["::1"]\r\n', (0, b"10.0.0.0/8\n::1/128\n", b"")),
+        ("union --json --strict -", b'"10.0.0.0/8"\n["x"]\n"y"', (2, b"", b"-:2: refused address: x\n-:3: refused address: y\n")),
+        ("union --json -", b'"10.0.0.0/8"\n["::1"\n"::2"', (2, b"", b"-:2: not JSON, or more than 127 levels\n")),
+        ("union --json-field a -", b'{"a": "10.0.0.0/8"}\n{"b": "x"}\n{"a": "::/0"}', (0, b"10.0.0.0/8\n::/0\n", b"")),
+        ("union --json-field a -", b'{"b": "10.0.0.0/8"}\n{"b": "x"}\n', (2, b"", no_field % b"-")),
+    ]:  # fmt: skip
+        if wanted:
+            yield f"{words} {data}", run(program, words.split(), folder, data), wanted
+        else:
+            status, output, error = run(program, words.split(), folder, data)
+            yield words, (status, output, error.splitlines()[0]), (2, b"", b"--json-field: '': not a name of a field")
+    for seed in range(50):
+        rng = random.Random(seed)
+        documents = [made_up(rng, 4) for _ in range(rng.randrange(1, 12))]
+        lines = "\n".join(json.dumps(document, ensure_ascii=bool(seed % 2)) for document in documents)
+        write(folder, "made_up", lines.encode())
+        names = [rng.choice(OTHERS + ["10.0.0.0/8", "::/0"]) + str(rng.randrange(3)) for _ in range(40)]
+        values = list(fields_of(names, documents))
+        others = [place for place, value in enumerate(values, 1) if not isinstance(value, str) or entry(value) is None]
+        words = ["union", *(f"--json-field={name}" for name in names), "made_up"]
+        status, output, error = run(program, words, folder)
+        if error == b"cidr_merge: " + no_field % b"made_up":
+            yield f"no field, seed {seed}", (status, output, values), (2, b"", [])
+            continue
+        places = [int(line.split(b":")[2]) for line in error.splitlines() if b" more refused lines" not in line]
+        wanted = (2, b"", others[:100]) if others else (0, union([values]), [])
+        yield f"fields, seed {seed}", (status, output, places), wanted
 
 
 def of_memory(program, folder):
@@ -247,9 +327,8 @@ def of_memory(program, folder):
     for first, item in HEAVY:
         last = b'"10.0.0.0/8"]' if first == b"[" else b'"a":"10.0.0.0/8"}'
         write(folder, "heavy", first + item * (HEAVY_LENGTH // len(item)) + last)
-        is_kept = b'""' in item or b"\\" in item
         whole, out_of_memory = (0, b"10.0.0.0/8\n", b""), (2, b"", b"out of memory\n")
-        for kib, wanted in [(HEAVY_KIB, whole), (LITTLE_KIB, out_of_memory if is_kept else whole)]:
+        for kib, wanted in [(HEAVY_KIB, whole), (LITTLE_KIB, out_of_memory)]:
             limited = f'ulimit -v {kib}; exec "$0" "$@"'
             got = run("sh", ["-c", limited, program, "union", "--json", "heavy"], folder)
             yield f"{kib} KiB for {item[:20]}", got, wanted

@@ -161,7 +161,7 @@ ROWS = [
     ("--most= ", "10.0.0.0", (2, b"", b"--most: '': not a number from 1" + USAGE)),
     ("--most 1 --most 1", "10.0.0.0", (2, b"", b"--most: given twice" + USAGE)),
     ("--most 1 --prefix 8", "10.0.0.0", (2, b"", b"--prefix: not an option of reduce; it takes --most N, --ipv4 N, --ipv6 N, --max-others N and the options of union" + USAGE)),
-    ("--most 1 --", "10.0.0.0", (2, b"", b"--: only common, minus, differ and find take a --" + USAGE)),
+    ("--most 1 --", "10.0.0.0", (2, b"", b"--: only common, minus, differ, find and free take a --" + USAGE)),
     ("--most 1 --ipv4 1", "10.0.0.0", (2, b"", b"--most: not together with --ipv4 or --ipv6" + USAGE)),
     ("1 --ipv6 1", "10.0.0.0", (2, b"", b"--most: not together with --ipv4 or --ipv6" + USAGE)),
     ("--ipv4 1 --ipv4 1", "10.0.0.0", (2, b"", b"--ipv4: given twice" + USAGE)),

@@ -13,7 +13,7 @@ READ = ["-e 10.0.0.1", "--skip-bad", "--json", "--strict"]
 FORMS = [f"--format {form}" for form in "plain range netmask wildcard csv nft ipset json addresses".split()]
 PRINTED = [*READ, "--ranges", "--count", *FORMS, "--set b", "--table b", "--maxelem 9", *LINES, "--allow-empty", "--at-least 9"]
 COUNTED = ["--most 9", "--ipv4 9", "--ipv6 9", "--max-others any"]
-OPTIONS = [*PRINTED, *COUNTED, "--max-change 9%", "--prefix 24", "--from halves"]
+OPTIONS = [*PRINTED, *COUNTED, "--max-change 9%", "--prefix 24", "--all", "--from halves"]
 
 # The operations with one FILE or more, and the options that each takes.
 TASKS = {
@@ -27,6 +27,7 @@ TASKS = {
     "check f": ["-e 10.0.0.1", "--strict"],
     "overlaps f": ["-e 10.0.0.1"],
     "find ::1 -- f": ["-e 10.0.0.1", "--from halves"],
+    "free f -- f": [*READ, *LINES, "--allow-empty", "--prefix 24", "--all"],
 }
 
 
@@ -41,7 +42,7 @@ def are_right(task, options):
         all(option in TASKS[task] for option in options),
         len(forms) < 2,
         not any(words.count(word) > 1 for word in words if " " in options[words.index(word)] and word != "-e"),
-        "--prefix" in words or name != "split",
+        "--prefix" in words or name not in ("split", "free"),
         {"--most", "--ipv4", "--ipv6"} & set(words) or name != "reduce",
         not {"--allow-empty", "--at-least"} <= set(words),
         "--most" not in words or not {"--ipv4", "--ipv6"} & set(words),
@@ -65,7 +66,7 @@ def some_options():
 def words(program, folder):
     """Each operation with options that it takes and such that it does not take."""
     for task in TASKS:
-        needed = {"split f": ("--prefix 24",), "reduce f": ("--most 9",)}.get(task, ())
+        needed = {"split f": ("--prefix 24",), "free f -- f": ("--prefix 24",), "reduce f": ("--most 9",)}.get(task, ())
         for options in some_options():
             for all_options in {options, (*needed, *options)}:
                 line = task.replace(" f", " halves", 1).replace(" f", " odd")

@@ -60,7 +60,7 @@ def asked(name):
     return program(name), is_plain
 
 
-CAUSES = (rb"address|format|prefix|range|byte order mark|UTF-16 text|gzip data|NUL byte|second entry|host bits|repetition|value: there is none"
+CAUSES = (rb"address|format|prefix|range|byte order mark|UTF-16 text|gzip data|NUL byte|second entry|host bits|mask or wildcard|repetition|value: there is none"
           rb"|second address: with --ranges, FIRST LAST is a range")
 
 

@@ -69,9 +69,14 @@ StopsAtItems known number (item ∷ items) before fault refused =
     ⊎ ((between : ReadLists) × ReadsItem known number item before between × (between.is_out_of_memory ≡ false)
     × StopsAtItems known (number + 1) items between fault refused)
 
--- the rules of the lists: with `--strict`, host bits are refused
+-- the rules of the lists: with `--strict`, host bits are refused; with `--whole`, lists that do not end with a line
+-- feed; with `--masks`, a mask or wildcard may be a second word
 abbrev pub rules_of : List Item → Rules
-rules_of items = record { refuses_host_bits = is_given items own.strict }
+rules_of items = record {
+  refuses_host_bits = is_given items own.strict;
+  is_whole = is_given items own.whole;
+  takes_masks = is_given items own.masks;
+}
 
 -- the lists of a command line were read, and memory did not run out
 pub record IsReadOf (known : KnownLists) (items : List Item) (read : ReadLists) : Type 0 where

@@ -7,7 +7,7 @@ ghost use Rattle.cidr_filter.specs.Reading.{question_of, rules_of, source_by, so
 ghost use Rattle.cidr_filter.specs.Private.Reading.{ReadsAll, HasSets, HasBlocks};
 
 use crate::matcher::{Matcher, Sets, Tables};
-use crate::rows::{LONGEST, NETWORKS, STRICT, TEXT};
+use crate::rows::{LONGEST, MASKS, NETWORKS, STRICT, TEXT, WHOLE};
 use ipnetwork::{Ipv4Network, Ipv6Network};
 use ipnetwork_sets::{AddressSet, IpAddressSet};
 use lists::{ListReader, OpenLists, ReadFault, Refusals, Rules, read_named, read_text};
@@ -51,12 +51,15 @@ pub(crate) fn question_of(items: &[Item<'_>]) -> Question
     }
 }
 
-/// Returns the rules of the lists: with `--strict`, host bits are refused.
+/// Returns the rules of the lists: with `--strict`, host bits are refused; with `--whole`, lists
+/// that do not end with a line feed; with `--masks`, a mask or wildcard may be a second word.
 fn rules_of(items: &[Item<'_>]) -> Rules
     ensures { result ≡ rules_of items.now }
 {
     Rules {
         refuses_host_bits: is_given(items, STRICT),
+        is_whole: is_given(items, WHOLE),
+        takes_masks: is_given(items, MASKS),
     }
 }
 

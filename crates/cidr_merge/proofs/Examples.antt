@@ -1,5 +1,5 @@
 -- Values at which a wrong definition would show. Each of these computes.
-use Rattle.cidr_merge.proofs.Words.{◌≡◌, ◌++◌, ℕ, List, ◌∷◌, [], true, false, refl, map, filter, codes, String, Some, None, is_some, digits, Network, v4_family, InUnion, flat_map, range_with_len, pair_fault, free_items, Row, rows_of, pairs_of, is, lists_of, text_in, IsLeft, IsLeftOfSecond, AreBoth, merged, merged_ranges, block_line, range_line, are_wrong_files, are_wrong_sides, files_among, takes, form_called, form_of, most_in, shape_of, prefix_in, entries, pairs, Names, is_set_name, usual_names, before_dashes, behind_dashes, task_called, answer_status, Union, Common, Minus, Differ, Blocks, Ranges, Counts, Exported, Csv, Sets, First, Second, Any, Operation, Request}
+use Rattle.cidr_merge.proofs.Words.{◌≡◌, ◌++◌, ℕ, List, ◌∷◌, [], true, false, refl, map, filter, codes, String, Some, None, is_some, digits, Network, v4_family, InUnion, flat_map, range_with_len, pair_fault, free_items, Row, rows_of, pairs_of, is, lists_of, text_in, IsLeft, IsLeftOfSecond, AreBoth, merged, merged_ranges, block_line, range_line, are_wrong_files, are_wrong_sides, files_among, takes, form_called, form_of, most_in, shape_of, fields_of, prefix_in, entries, pairs, Names, is_set_name, usual_names, before_dashes, behind_dashes, task_called, answer_status, Union, Common, Minus, Differ, Blocks, Ranges, Counts, Exported, Csv, Sets, First, Second, Any, Operation, Request, lenient}
 use Rattle.options.specs.declared.items.Item.TheVariants as says
 use Rattle.cidr_merge.specs.declared.command_line.Form.{Form}
 use Rattle.cidr_merge.specs.declared.exports.Export.TheVariants as exports
@@ -12,7 +12,7 @@ plain_merge operation form = record {
   operation = operation;
   form = form;
   skips_bad = false;
-  shape = shapes.Lines;
+  shape = shapes.Lines lenient;
   allows_empty = false;
   at_least = 0;
   max_change = Any;
@@ -27,7 +27,7 @@ ten = record { address = 167772160; prefix = 8 }
 
 -- `[` before each line, and `;` after it
 abbrev pub around : Names
-around = record { table = []; set = []; limit = []; before = codes "["; after = codes ";" }
+around = record { table = []; set = []; limit = []; before = codes "["; after = codes ";"; fields = [] }
 
 pub block_of_a_union : block_line usual_names Union v4_family
     (record { side = First; part = ten }) ≡ codes "10.0.0.0/8\n"
@@ -121,12 +121,12 @@ skipped_lines = (refl, refl, refl)
 abbrev pub rows : List Row
 rows = rows_of entries
 
--- the ten words that name a task, and words that are close to one
+-- the eleven words that name a task, and words that are close to one
 pub tasks_called : map task_called (codes "union" ∷ codes "common" ∷ codes "minus" ∷ codes "differ" ∷ codes "list"
-    ∷ codes "split" ∷ codes "reduce" ∷ codes "check" ∷ codes "overlaps" ∷ codes "find" ∷ [])
+    ∷ codes "split" ∷ codes "reduce" ∷ codes "check" ∷ codes "overlaps" ∷ codes "find" ∷ codes "free" ∷ [])
     ≡ map Some (tasks.Merge Union ∷ tasks.Merge Common ∷ tasks.Merge Minus ∷ tasks.Merge Differ ∷ tasks.List
     ∷ tasks.Split
-    ∷ tasks.Reduce ∷ tasks.Check ∷ tasks.Overlaps ∷ tasks.Find ∷ [])
+    ∷ tasks.Reduce ∷ tasks.Check ∷ tasks.Overlaps ∷ tasks.Find ∷ tasks.Free ∷ [])
 tasks_called = refl
 
 pub no_tasks : map task_called (codes "Union" ∷ codes "diff" ∷ codes "COMMON" ∷ codes "overlap" ∷ codes "lists"
@@ -172,10 +172,10 @@ wrong_names = refl
 -- of one side: a `--`, no FILE; of two: no `--`, two of them, nothing before or after it
 pub wrong_sides : map (λ task. are_wrong_sides task 0 1 0 ∷ are_wrong_sides task 1 1 1 ∷ are_wrong_sides task 0 0 0
     ∷ are_wrong_sides task 2 1 1 ∷ are_wrong_sides task 1 0 1 ∷ are_wrong_sides task 1 1 0 ∷ [])
-    (tasks.Merge Union ∷ tasks.Merge Minus ∷ tasks.List ∷ tasks.Find ∷ tasks.Overlaps ∷ [])
+    (tasks.Merge Union ∷ tasks.Merge Minus ∷ tasks.List ∷ tasks.Find ∷ tasks.Overlaps ∷ tasks.Free ∷ [])
     ≡ (false ∷ true ∷ true ∷ true ∷ true ∷ true ∷ []) ∷ (true ∷ false ∷ true ∷ true ∷ true ∷ true ∷ [])
     ∷ (false ∷ true ∷ true ∷ true ∷ true ∷ true ∷ []) ∷ (true ∷ false ∷ true ∷ true ∷ true ∷ true ∷ [])
-    ∷ (false ∷ true ∷ true ∷ true ∷ true ∷ true ∷ []) ∷ []
+    ∷ (false ∷ true ∷ true ∷ true ∷ true ∷ true ∷ []) ∷ (true ∷ false ∷ true ∷ true ∷ true ∷ true ∷ []) ∷ []
 wrong_sides = refl
 
 -- the words before the `--` of a `find` name no files
@@ -184,14 +184,17 @@ pub no_files : (files_among tasks.Find 2 (codes "-" ∷ [] ∷ codes "-" ∷ [])
 no_files = (refl, refl)
 
 -- the options that each task takes, by their rows: `--prefix` is row 10, `--from` 11, `-e` 12, `--most` 13, `--maxelem`
--- 14, `--ipv4` 15, `--ipv6` 16, `--max-others` 17, `--allow-empty` 18, `--at-least` 19, `--max-change` 20; rows 21 to 23
--- are `--help`, `--version` and `--quiet`
-pub options_of_tasks : map (λ task. filter (takes task) (range_with_len 0 24)) (tasks.Merge Union ∷ tasks.Merge Differ
-    ∷ tasks.List ∷ tasks.Split ∷ tasks.Reduce ∷ tasks.Check ∷ tasks.Overlaps ∷ tasks.Find ∷ [])
-    ≡ (range_with_len 0 10 ++ 12 ∷ 14 ∷ 18 ∷ 19 ∷ []) ∷ (range_with_len 0 10 ++ 12 ∷ 14 ∷ 18 ∷ 19 ∷ 20 ∷ [])
-    ∷ (range_with_len 0 10 ++ 12 ∷ 14 ∷ 18 ∷ 19 ∷ [])
-    ∷ (3 ∷ 4 ∷ 5 ∷ 8 ∷ 9 ∷ 10 ∷ 12 ∷ 19 ∷ []) ∷ (range_with_len 0 10 ++ range_with_len 12 8)
-    ∷ (5 ∷ 12 ∷ []) ∷ (12 ∷ []) ∷ (11 ∷ 12 ∷ []) ∷ []
+-- 14, `--ipv4` 15, `--ipv6` 16, `--max-others` 17, `--allow-empty` 18, `--at-least` 19, `--max-change` 20, `--json-field` 21,
+-- `--whole` 22, `--masks` 23, `--all` 24; rows 25 to 27 are `--help`, `--version` and `--quiet`
+pub options_of_tasks : map (λ task. filter (takes task) (range_with_len 0 28)) (tasks.Merge Union ∷ tasks.Merge Differ
+    ∷ tasks.List ∷ tasks.Split ∷ tasks.Reduce ∷ tasks.Check ∷ tasks.Overlaps ∷ tasks.Find ∷ tasks.Free ∷ [])
+    ≡ (range_with_len 0 10 ++ 12 ∷ 14 ∷ 18 ∷ 19 ∷ 21 ∷ 22 ∷ 23 ∷ [])
+    ∷ (range_with_len 0 10 ++ 12 ∷ 14 ∷ 18 ∷ 19 ∷ 20 ∷ 21 ∷ 22 ∷ 23 ∷ [])
+    ∷ (range_with_len 0 10 ++ 12 ∷ 14 ∷ 18 ∷ 19 ∷ 21 ∷ 22 ∷ 23 ∷ [])
+    ∷ (3 ∷ 4 ∷ 5 ∷ 8 ∷ 9 ∷ 10 ∷ 12 ∷ 19 ∷ 21 ∷ 22 ∷ 23 ∷ [])
+    ∷ (range_with_len 0 10 ++ range_with_len 12 8 ++ 21 ∷ 22 ∷ 23 ∷ [])
+    ∷ (5 ∷ 12 ∷ []) ∷ (12 ∷ []) ∷ (11 ∷ 12 ∷ [])
+    ∷ (3 ∷ 4 ∷ 5 ∷ 8 ∷ 9 ∷ 10 ∷ 12 ∷ 18 ∷ 21 ∷ 22 ∷ 23 ∷ 24 ∷ []) ∷ []
 options_of_tasks = refl
 
 -- of all bytes, those that a set's name may begin with, and those that it may have after its first
@@ -221,8 +224,22 @@ pub usual_form : form_of (Exported Csv) (says.Flag 3 ∷ []) ≡ Exported Csv
 usual_form = refl
 
 pub shapes_said : map shape_of ((says.Flag 4 ∷ []) ∷ (says.Flag 4 ∷ says.Flag 5 ∷ []) ∷ (says.Flag 3 ∷ [])
-    ∷ (says.Flag 5 ∷ []) ∷ []) ≡ shapes.Json ∷ shapes.StrictJson ∷ shapes.Lines ∷ shapes.StrictLines ∷ []
+    ∷ (says.Flag 5 ∷ []) ∷ (says.Flag 22 ∷ []) ∷ (says.Flag 23 ∷ says.Flag 5 ∷ []) ∷ [])
+    ≡ shapes.Json ∷ shapes.StrictJson ∷ shapes.Lines lenient ∷ shapes.Lines (record lenient { refuses_host_bits = true })
+    ∷ shapes.Lines (record lenient { is_whole = true })
+    ∷ shapes.Lines (record { refuses_host_bits = true; is_whole = false; takes_masks = true }) ∷ []
 shapes_said = refl
+
+-- the name of a field implies documents
+pub shapes_of_fields : map shape_of ((says.Value 21 (codes "a") ∷ []) ∷ (says.Flag 4 ∷ says.Joined 21 (codes "a")
+    (codes "--json-field=a") ∷ []) ∷ (says.Value 21 (codes "a") ∷ says.Flag 5 ∷ []) ∷ [])
+    ≡ shapes.Fields ∷ shapes.Fields ∷ shapes.StrictFields ∷ []
+shapes_of_fields = refl
+
+-- all names, in their order
+pub fields_said : fields_of (says.Value 21 (codes "b") ∷ says.Flag 4 ∷ says.Value 12 (codes "c")
+    ∷ says.Joined 21 (codes "a") (codes "--json-field=a") ∷ says.File (codes "d") ∷ []) ≡ codes "b" ∷ codes "a" ∷ []
+fields_said = refl
 
 -- a prefix length may have a `+` before it, and leading zeros
 pub prefix_lengths : map prefix_in (codes "24" ∷ codes "+024" ∷ codes "128" ∷ codes "129" ∷ codes "++8" ∷ codes "+" ∷ []

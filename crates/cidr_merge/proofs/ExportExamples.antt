@@ -32,6 +32,7 @@ blocked = record {
   limit = codes "65536";
   before = codes "deny ";
   after = codes ";";
+  fields = [];
 }
 
 pub sets : (export_text blocked Nft (ten ∷ one ∷ []) []

@@ -1,5 +1,5 @@
 -- Requests and lists at which a wrong bound on the number of networks would show. Each of these computes.
-use Rattle.cidr_merge.proofs.Words.{◌≡◌, ℕ, Bool, ◌∷◌, [], true, false, refl, map, Request, Operation, Union, Differ, Blocks, Counts, Exported, Nft, Ipset, Json, Addresses, Any, least_number, lacks_networks}
+use Rattle.cidr_merge.proofs.Words.{◌≡◌, ℕ, Bool, ◌∷◌, [], true, false, refl, map, Request, Operation, Union, Differ, Blocks, Counts, Exported, Nft, Ipset, Json, Addresses, Any, lenient, least_number, lacks_networks}
 use Rattle.cidr_merge.proofs.Examples.{none, one, one6, plain_merge, ten}
 use Rattle.cidr_merge.specs.declared.command_line.Form.{Form}
 use Rattle.cidr_merge.specs.declared.reading.Sets.{Sets}
@@ -16,7 +16,7 @@ asked form allows_empty at_least = record {
   operation = Union;
   form = form;
   skips_bad = false;
-  shape = shapes.Lines;
+  shape = shapes.Lines lenient;
   allows_empty = allows_empty;
   at_least = at_least;
   max_change = Any;
@@ -28,6 +28,6 @@ pub networks_asked : map least_number (asked (Exported Nft) true 0 ∷ asked (Ex
 networks_asked = refl
 
 -- both families count for a `split`, and as many as wanted are enough
-pub networks_cut : map (lacks_networks (record { length = 25; skips_bad = false; shape = shapes.Lines; at_least = 2 }))
+pub networks_cut : map (lacks_networks (record { length = 25; skips_bad = false; shape = shapes.Lines lenient; at_least = 2 }))
     (none ∷ one ∷ one6 ∷ (record { v4 = ten ∷ []; v6 = ten ∷ [] }) ∷ []) ≡ true ∷ true ∷ true ∷ false ∷ []
 networks_cut = refl

@@ -1,9 +1,10 @@
 -- The words and the lemmas that answers cite, passed on from one place.
 unfoldable pub use Rattle.cidr_merge.proofs.Words.{digits}
-pub use Rattle.cidr_merge.proofs.Words.{AddressCount, AreAddresses, AreFound, ArePartOf, AreTexts, Bool, Common, Err, FailsIn, FamilyFoot, FamilyHead, FileStops, FiltersInPlace, FiltersInPlace-more_no, FiltersInPlace-more_swap, First, Foot, HELP, Head, IfErr, IpAddr, IsLeft, IsPartitionPoint-from_clause, IsPermutation, IsPermutation-map, Item, KnownLists, List, None, Ok, Opening, OutOfMemory, Placed, Prints, ReadFault, ReadLists, ReadsLists, ReadsOne, Reports, Result, Second, Shape, Sought, StopsAtDocument, StopsBy, StopsOne, StrictJson, TellsFound, TextStops, TextsStop, Union, VERSION, [], address_line, ap, append-nil, append_assoc, are_wrong_files, arith, at_drop_more, block_size, blocks_left, closing, concat, count_line, count_number, decimal, drop, drop-length, element, ending, err_from_is_err_and, fails_first, false, family_name, family_text, filter, findings_by, flat_map, following, frame_text, from_of, get_or, get_or_default, has_other, has_text, high, if◌then◌else◌, inl, inr, ip_of, is, is_any, is_refused, is_v6, is_wrong, large_number, left_of_second, length, length-append, length-map, length-take, line_entries, line_findings, line_is_other, line_matches, line_of, line_sought, lines, lines_left, list_any, listed, listed_as, lists_entries, lists_findings, lists_matches, lists_of, lists_sought, low, map, mask_of, match_lines, matches_by, merged_by, min, name_at, nat_lt, ne_eqb, network_line, not, not_asked, nothing_read, number_of, numbered_lines, of_calls, overlaps, pair_text, pieces_text, place_text, position_or_len, printed, puts_it, puts_more, puts_none, puts_two, refl, repetitions, rules, said_by, sign_of, sought_as, sought_in, source, string_bytes, strip_prefix_char, subst, sym, take, take-append_seam, take-length, take_rest, tells_on, tells_same, text_of, told_of, total, true, v4_family, v6_family, with_addresses, with_head, zero-div, ℕ, ◌&&◌, ◌*◌, ◌++◌, ◌+◌, ◌-◌, ◌/◌, ◌<◌, ◌^◌, ◌||◌, ◌∙◌, ◌∷◌, ◌≡◌, ◌≤◌}
+pub use Rattle.cidr_merge.proofs.Words.{AddressCount, AreAddresses, AreFound, ArePartOf, AreTexts, Bool, Common, Err, FailsIn, FamilyFoot, FamilyHead, FileStops, FiltersInPlace, FiltersInPlace-more_no, FiltersInPlace-more_swap, First, Foot, HELP, Head, IfErr, IpAddr, IsLeft, IsPartitionPoint-from_clause, IsPermutation, IsPermutation-map, Item, KnownLists, List, None, Ok, Opening, OutOfMemory, Placed, Prints, ReadFault, ReadLists, ReadsLists, ReadsDocument, ReadsFile, ReadsOne, Reports, Result, Second, Shape, Sought, StopsAtDocument, StopsBy, StopsFile, Strings, StopsOne, TellsFound, TextStops, TextsStop, Union, VERSION, [], address_line, ap, append-nil, append_assoc, are_wrong_files, arith, at_drop_more, block_size, blocks_left, closing, concat, count_line, count_number, decimal, drop, drop-length, element, ending, err_from_is_err_and, fails_first, false, family_name, family_text, fields_of, filter, findings_by, flat_map, following, frame_text, from_of, get_or, get_or_default, has_other, has_text, high, if◌then◌else◌, inl, inr, ip_of, is, is_any, is_refused, is_v6, is_wrong, large_number, left_of_second, length, length-append, length-map, length-take, line_entries, line_findings, line_is_other, line_matches, line_of, line_sought, lines, lines_left, list_any, listed, listed_as, lists_entries, lists_findings, lists_matches, lists_of, lists_sought, low, map, mask_of, match_lines, matches_by, merged_by, min, name_at, nat_lt, ne_eqb, network_line, not, not_asked, nothing_read, number_of, numbered_lines, of_calls, overlaps, pair_text, pieces_text, place_text, position_or_len, printed, puts_it, puts_more, puts_none, puts_two, refl, repetitions, rules, said_by, sign_of, sought_as, sought_in, source, string_bytes, strings_in, strip_prefix_char, subst, sym, take, take-append_seam, take-length, take_rest, tells_on, tells_same, text_of, told_of, total, true, v4_family, v6_family, with_addresses, with_head, zero-div, ℕ, ◌&&◌, ◌*◌, ◌++◌, ◌+◌, ◌-◌, ◌/◌, ◌<◌, ◌^◌, ◌||◌, ◌∙◌, ◌∷◌, ◌≡◌, ◌≤◌, Option, Some, OnOk}
 pub use Rattle.cidr_merge.proofs.Cuts.{cut_into}
 pub use Rattle.cidr_merge.proofs.ExportTexts.{any_unless_empty, there_is_none, there_is_one}
 pub use Rattle.cidr_merge.proofs.Found.{AnySoFar, ToldSoFar, all_told, any_more, more_so_far, none_so_far, tells_none, tells_one}
+pub use Rattle.cidr_merge.proofs.FreeEnds.{all_of_them, one_alone, prints_none, prints_some}
 pub use Rattle.cidr_merge.proofs.Inspected.{all_written, status_is}
 pub use Rattle.cidr_merge.proofs.KeptEntries.{Swept, as_it_was, same_further, swapped_rest}
 pub use Rattle.cidr_merge.proofs.ListedOrder.{sorted_as}

@@ -5,6 +5,8 @@ pub mod Examples
 pub mod ExportExamples
 pub mod ExportTexts
 pub mod Found
+pub mod FreeEnds
+pub mod FreeExamples
 pub mod HeldBackExamples
 pub mod Inspected
 pub mod KeptEntries

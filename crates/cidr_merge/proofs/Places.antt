@@ -26,3 +26,4 @@ named_among tasks.Reduce middle names = refl
 named_among tasks.Check middle names = refl
 named_among tasks.Overlaps middle names = refl
 named_among tasks.Find middle names = sym (drop-map string_bytes middle names)
+named_among tasks.Free middle names = refl

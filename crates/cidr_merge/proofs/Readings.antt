@@ -140,6 +140,7 @@ module _ (networks : (text : List ℕ) (result : Result IpNetwork CidrFault)
   plain_cause_is text (causes.Encoding encoding) h none = absurd h
   plain_cause_is text causes.Second h none = absurd h
   plain_cause_is text causes.HostBits h none = absurd h
+  plain_cause_is text causes.Mask h none = absurd h
 
   -- what a text is computed to name it names
   named_address : (text : List ℕ) (a : IpAddr) → ip_of text ≡ Some a → NamesIp text a

@@ -1,5 +1,5 @@
 -- Words at which a wrong definition of what they ask for would show. Each of these computes.
-use Rattle.cidr_merge.proofs.Words.{◌≡◌, ℕ, List, ◌∷◌, ◌++◌, [], refl, codes, String, Some, None, string_bytes, Table, rows_of, pairs_of, command_of, entries, pairs, spelled_out, Command, Blocks, Ranges, Union, Minus, Differ, Percent}
+use Rattle.cidr_merge.proofs.Words.{◌≡◌, ℕ, List, ◌∷◌, ◌++◌, [], refl, codes, lenient, String, Some, None, string_bytes, Table, rows_of, pairs_of, command_of, entries, pairs, spelled_out, Command, Blocks, Ranges, Union, Minus, Differ, Percent}
 use Rattle.std.specs.Prelude.{false, map, true}
 use Rattle.cidr_merge.proofs.Examples.{plain_merge}
 use Rattle.cidr_merge.specs.declared.command_line.Command.TheVariants as commands
@@ -35,6 +35,7 @@ pub wrong_options : {Z : Type 0} → Wrong Z (codes "union" ∷ codes "a" ∷ co
     × Wrong Z (codes "union" ∷ codes "a" ∷ codes "--format" ∷ [])
     × Wrong Z (codes "split" ∷ codes "a" ∷ codes "--skip-bad" ∷ [])
     × Wrong Z (codes "split" ∷ codes "a" ∷ codes "--prefix=129" ∷ [])
+    × Wrong Z (codes "free" ∷ codes "a" ∷ codes "--" ∷ codes "b" ∷ codes "--all" ∷ [])
     × Wrong Z (codes "reduce" ∷ codes "a" ∷ codes "--most=0" ∷ [])
     × Wrong Z (codes "reduce" ∷ codes "a" ∷ codes "--max-others=1" ∷ [])
     × Wrong Z (codes "reduce" ∷ codes "a" ∷ codes "--most=1" ∷ codes "--ipv6=1" ∷ [])
@@ -50,6 +51,7 @@ wrong_options = (
   (λ _ o _ a _ b. simp (o, a, b)),
   (λ _ o _ a _ b. simp (o, a, b)),
   (λ _ o _ a _ b. simp (o, a, b)),
+  (λ _ o _ a _ b _ c _ d. simp (o, a, b, c, d)),
   (λ _ o _ a _ b. simp (o, a, b)),
   (λ _ o _ a _ b. simp (o, a, b)),
   (λ _ o _ a _ b _ c. simp (o, a, b, c)),
@@ -93,7 +95,7 @@ pub options_anywhere : {Z : Type 0}
       operation = Differ;
       form = Blocks;
       skips_bad = false;
-      shape = shapes.Lines;
+      shape = shapes.Lines lenient;
       allows_empty = false;
       at_least = 7;
       max_change = Percent 20;
@@ -101,7 +103,9 @@ pub options_anywhere : {Z : Type 0}
     }))
     (codes "a" ∷ codes "b" ∷ [])
     × Ask Z (codes "split" ∷ codes "a" ∷ codes "--prefix=+9" ∷ codes "--skip-bad" ∷ [])
-    (commands.Split (record { length = 9; skips_bad = true; shape = shapes.Lines; at_least = 0 })) (codes "a" ∷ [])
+    (commands.Split (record { length = 9; skips_bad = true; shape = shapes.Lines lenient; at_least = 0 })) (codes "a" ∷ [])
+    × Ask Z (codes "free" ∷ codes "a" ∷ codes "--prefix=26" ∷ codes "--" ∷ codes "b" ∷ codes "--all" ∷ [])
+    (commands.Free (record { length = 26; all = true; merge = plain_merge Minus Blocks })) (codes "a" ∷ codes "b" ∷ [])
     × Ask Z (codes "reduce" ∷ codes "a" ∷ codes "--most=18446744073709551616" ∷ codes "--ranges" ∷ [])
     (commands.Reduce (record {
       v4 = 18446744073709551615;
@@ -129,6 +133,7 @@ options_anywhere = (
   (λ _ o _ a _ b _ c _ d. simp (o, a, b, c, d)),
   (λ _ o _ a _ b _ c _ d _ e. simp (o, a, b, c, d, e)),
   (λ _ o _ a _ b _ c. simp (o, a, b, c)),
+  (λ _ o _ a _ b _ c _ d _ e. simp (o, a, b, c, d, e)),
   (λ _ o _ a _ b _ c. simp (o, a, b, c)),
   (λ _ o _ a _ b _ c. simp (o, a, b, c)),
   (λ _ o _ a _ b. simp (o, a, b)),

@@ -9,7 +9,9 @@ pub use Rattle.cidr_merge.specs.FindRuns.{EndsReadingAll, EndsSearching, search_
 pub use Rattle.cidr_merge.specs.FindWords.{AreAddresses, HasNoAddress, with_addresses}
 pub use Rattle.cidr_merge.specs.Findings.{IsFound, findings_by, has_host_bits, host_findings, line_findings, lists_findings, place_text}
 pub use Rattle.cidr_merge.specs.Finds.{has, has_refused, has_text, is_refused, line_matches, lists_matches, match_lines, matches_by}
+pub use Rattle.cidr_merge.specs.FieldNames.{fields_of}
 pub use Rattle.cidr_merge.specs.Forms.{form_called, form_of, most_in, prefix_in, shape_of}
+pub use Rattle.cidr_merge.specs.FreeRuns.{EndsPrinting, others_if}
 pub use Rattle.cidr_merge.specs.HeldBack.{HasNetworks, IsChange, IsHeldBack, least_number}
 pub use Rattle.cidr_merge.specs.InspectionRuns.{EndsOrdered, findings_status}
 pub use Rattle.cidr_merge.specs.NamedLists.{lists_of, text_in}
@@ -31,7 +33,7 @@ pub use Rattle.cidr_merge.specs.Repetitions.{found_among, further, other_of, ove
 pub use Rattle.cidr_merge.specs.RightWords.{are_wrong_files, are_wrong_sides, files_among, from_of, is_wrong, takes}
 pub use Rattle.cidr_merge.specs.Runs.{answer_status}
 pub use Rattle.cidr_merge.specs.SetNames.{Names, is_limit, is_set_name, line_of, usual_names}
-pub use Rattle.cidr_merge.specs.Shapes.{ReadsOne, Source, StopsBy, StopsOne, source, rules_of}
+pub use Rattle.cidr_merge.specs.Shapes.{ReadsFile, ReadsOne, Source, StopsBy, StopsFile, StopsOne, source, rules_of, strings_in}
 pub use Rattle.cidr_merge.specs.Sides.{before_dashes, behind_dashes}
 pub use Rattle.cidr_merge.specs.SoughtLines.{has_other, line_is_other, line_sought, lists_sought}
 pub use Rattle.cidr_merge.specs.Spelling.{spelled_out}
@@ -54,7 +56,6 @@ pub use Rattle.cidr_merge.specs.declared.merge_join.Side.TheVariants.{First, Sec
 pub use Rattle.cidr_merge.specs.declared.placed.Placed.{Placed}
 pub use Rattle.cidr_merge.specs.declared.reading.Sets.{Sets}
 pub use Rattle.cidr_merge.specs.declared.shapes.Shape.{Shape}
-pub use Rattle.cidr_merge.specs.declared.shapes.Shape.TheVariants.{StrictJson}
 pub use Rattle.cidr_merge.specs.declared.sought.Sought.{Sought}
 pub use Rattle.cidr_merge.specs.declared.tasks.Task.{Task}
 pub use Rattle.ipnetwork.specs.Computed.IpNetworkText.{ip_network_of}
@@ -74,7 +75,7 @@ pub use Rattle.ipnetwork_blocks.specs.Aggregate.{InUnion, IsAggregate}
 pub use Rattle.ipnetwork_blocks.specs.LeastList.{IsLeastList}
 pub use Rattle.ipnetwork_blocks.specs.Subnets.{subnets_of}
 pub use Rattle.ipnetwork_family.specs.Computed.Network.{is_member}
-pub use Rattle.ipnetwork_family.specs.Family.{text_of, v4_family, v6_family}
+pub use Rattle.ipnetwork_family.specs.Family.{Family, text_of, v4_family, v6_family}
 unfoldable pub use Rattle.ipnetwork_family.specs.Network.{count_up}
 pub use Rattle.ipnetwork_family.specs.Network.{Network, block_size, high, low, mask_of}
 pub use Rattle.ipnetwork_family.specs.NetworkText.{before_slash, slashes}
@@ -92,17 +93,19 @@ pub use Rattle.lines.specs.Outputs.{AppendsBeginning, FailsIn, Prints, Puts, Wri
 pub use Rattle.lines.specs.declared.fault.RunFault.{RunFault}
 pub use Rattle.lists.proofs.Printed.{map_contains}
 pub use Rattle.lists.specs.Bytes.{BytesStop}
-pub use Rattle.lists.specs.Documents.{StopsAtDocument}
+pub use Rattle.lists.specs.Documents.{ReadsDocument, StopsAtDocument}
 pub use Rattle.lists.specs.Entries.{HasDash, IsEntryCause, IsPlainCause, IsRange, IsRefusedFor, NamesEntry, NamesNone, NamesSome, ReadsEntry, entry_text, is_dash}
 pub use Rattle.lists.specs.KnownLists.{KnownLists}
 pub use Rattle.lists.specs.Lines.{comment_text, trimmed}
 pub use Rattle.lists.specs.Lists.{ReadLists, nothing_read}
 pub use Rattle.lists.specs.Refusals.{Refused, no_refusals}
 pub use Rattle.lists.specs.declared.bytes.BytesFault.{BytesFault}
+pub use Rattle.lists.specs.declared.chosen.Strings.{Strings}
 pub use Rattle.lists.specs.declared.entry.Entry.{Entry}
 pub use Rattle.lists.specs.declared.entry.Entry.TheVariants.{Range}
 pub use Rattle.lists.specs.declared.entry.EntryFault.{EntryFault}
 pub use Rattle.lists.specs.declared.named.ReadFault.{ReadFault}
+pub use Rattle.lists.specs.Rules.{lenient}
 pub use Rattle.lists.specs.declared.named.ReadFault.TheVariants.{OutOfMemory}
 pub use Rattle.options.proofs.Tables.{pairs_of, rows_of}
 pub use Rattle.options.specs.Faults.{pair_fault}

@@ -23,6 +23,7 @@ use Rattle.cidr_merge.specs.declared.command_line.Command.{Command}
 use Rattle.cidr_merge.specs.declared.command_line.Command.TheVariants as commands
 use Rattle.cidr_merge.specs.declared.command_line.Form.{Form}
 use Rattle.cidr_merge.specs.declared.command_line.Form.TheVariants.{Blocks, Exported}
+use Rattle.cidr_merge.specs.declared.command_line.FreeRequest.{FreeRequest}
 use Rattle.cidr_merge.specs.declared.command_line.Inspection.{Inspection}
 use Rattle.cidr_merge.specs.declared.command_line.Inspection.TheVariants as inspections
 use Rattle.cidr_merge.specs.declared.command_line.Operation.{Operation}
@@ -56,6 +57,14 @@ reduction_of items middle = record {
   merge = request_of operations.Union Blocks items middle;
 }
 
+-- the free networks that these options ask for; the pools and the used addresses are read as the sides of a `minus`
+abbrev pub free_of : List Item → ℕ → FreeRequest
+free_of items middle = record {
+  length = length_of items;
+  all = is_given items own.all;
+  merge = request_of operations.Minus Blocks items middle;
+}
+
 -- the inspection that a `check` makes, strict or not
 abbrev pub inspection_of : Bool → Inspection
 inspection_of strictly = if strictly then inspections.Strict else inspections.Check
@@ -75,6 +84,7 @@ asked_for tasks.Reduce items middle = commands.Reduce (reduction_of items middle
 asked_for tasks.Check items middle = commands.Inspect (inspection_of (is_given items own.strict))
 asked_for tasks.Overlaps items middle = commands.Inspect inspections.Overlaps
 asked_for tasks.Find items middle = commands.Find middle (length (from_of tasks.Find items))
+asked_for tasks.Free items middle = commands.Free (free_of items middle)
 
 -- the items (options and FILEs) in the words before the first `--`, and in those after it
 abbrev pub first_said : {Z : Type 0} → List Row → List (String Z) → List Item

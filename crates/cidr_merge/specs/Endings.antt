@@ -10,6 +10,7 @@ use Rattle.program.specs.Messages.{Reports}
 use Rattle.program.specs.Runs.{EndsRun}
 use Rattle.cidr_merge.specs.CommandLines.{command_of, sets_of}
 use Rattle.cidr_merge.specs.FindRuns.{EndsFind}
+use Rattle.cidr_merge.specs.FreeRuns.{EndsFree}
 use Rattle.cidr_merge.specs.InspectionRuns.{EndsInspecting}
 use Rattle.cidr_merge.specs.Options.{IsOptions}
 use Rattle.cidr_merge.specs.Reductions.{EndsReducing}
@@ -34,6 +35,8 @@ EndsCommand known words sets (commands.Inspect inspection) old new status =
     EndsInspecting known words inspection old new status
 EndsCommand known words sets (commands.Find middle from) old new status =
     EndsFind known words middle from old new status
+EndsCommand known words sets (commands.Free request) old new status =
+    EndsFree known words sets request old new status
 
 -- the words name a command, which was run, or are wrong, and nothing was written
 abbrev pub EndsAsked : {W : Type 0} → KnownLists → Names → Option (Command × List (List ℕ)) → Written W → Written W → ℕ

@@ -1,7 +1,8 @@
--- The meaning of the options for the output form, the input format, the prefix length of a `split`, the least number of
--- networks of a result and the greatest of a `reduce`.
+-- The meaning of the options for the output form, the input format, the prefix length of a `split` or a `free`, the least
+-- number of networks of a result and the greatest of a `reduce`.
 use Rattle.std.specs.Prelude.{ℕ, zero, suc, ◌==◌, List, [], ◌∷◌, Option, None, Some, if◌then◌else◌, codes, bytes_eq}
 use Rattle.std.specs.Option.{unwrap_or}
+use Rattle.lists.specs.declared.rules.Rules.{Rules}
 use Rattle.options.specs.Given.{is_given, value_of}
 use Rattle.options.specs.Values.{length_in, number_in}
 use Rattle.options.specs.declared.items.Item.{Item}
@@ -33,12 +34,21 @@ form_of usual items =
     else if is_given items own.count then Counts
     else unwrap_or (form_called (value_of items own.format)) usual
 
+-- the rules of lists of lines: with `--strict` host bits are refused, with `--whole` lists that do not end with a line
+-- feed, and with `--masks` a mask or wildcard may be a second word
+abbrev pub rules_by : List Item → Rules
+rules_by items = record {
+  refuses_host_bits = is_given items own.strict;
+  is_whole = is_given items own.whole;
+  takes_masks = is_given items own.masks;
+}
+
 -- the format in which lists are written
 abbrev pub shape_of : List Item → Shape
 shape_of items =
-    if is_given items own.json then if is_given items own.strict then shapes.StrictJson else shapes.Json
-    else if is_given items own.strict then shapes.StrictLines
-    else shapes.Lines
+    if is_given items own.json_field then if is_given items own.strict then shapes.StrictFields else shapes.Fields
+    else if is_given items own.json then if is_given items own.strict then shapes.StrictJson else shapes.Json
+    else shapes.Lines (rules_by items)
 
 -- the prefix length that a text names: a number up to 128, which may have a `+` (byte 43) before it
 abbrev pub without_plus : List ℕ → List ℕ
@@ -48,7 +58,7 @@ without_plus (byte ∷ text) = if byte == 43 then text else byte ∷ text
 abbrev pub prefix_in : List ℕ → Option ℕ
 prefix_in text = length_in 128 (without_plus text)
 
--- the prefix length of a `split`: 0 if no option gives one
+-- the prefix length of a `split` or a `free`: 0 if no option gives one
 abbrev pub length_of : List Item → ℕ
 length_of items = unwrap_or (prefix_in (value_of items own.prefix)) 0
 

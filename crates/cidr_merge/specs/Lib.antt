@@ -6,11 +6,13 @@ pub mod Endings
 pub mod Exports
 pub mod FindRuns
 pub mod FindWords
+pub mod FieldNames
 pub mod Findings
 pub mod Finds
 pub mod HeldBack
 pub mod InspectionRuns
 pub mod Forms
+pub mod FreeRuns
 pub mod NamedLists
 pub mod NumberedLines
 pub mod OneSide

@@ -15,10 +15,10 @@ use Rattle.cidr_merge.specs.declared.shapes.Shape.{Shape}
 
 -- a list was not read to its end, and nothing was written; or all were read, and the run ended as `Ends` says, by the
 -- addresses of the lists, and whether lines were refused
-abbrev pub EndsSide : {Z W : Type 0} → KnownLists → List (String Z) → Shape → (Sets → Bool → Type 0) → Written W
+abbrev pub EndsSide : {Z W : Type 0} → KnownLists → List (List ℕ) → List (String Z) → Shape → (Sets → Bool → Type 0) → Written W
     → Written W → ℕ → Type 0
-EndsSide known words shape Ends old new status =
-    ((fault : ReadFault) × Stops (source known shape) 0 words (nothing_read (rules_of shape) no_refusals) fault
+EndsSide known fields words shape Ends old new status =
+    ((fault : ReadFault) × Stops (source known fields shape) 0 words (nothing_read (rules_of shape) no_refusals) fault
     × EndsSilently old new status)
-    ⊎ ((sets : Sets) × (refused : Refused) × ReadsSide (source known shape) 0 words no_refusals sets refused
+    ⊎ ((sets : Sets) × (refused : Refused) × ReadsSide (source known fields shape) 0 words no_refusals sets refused
     × Ends sets (was_refused refused))

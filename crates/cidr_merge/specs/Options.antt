@@ -71,6 +71,18 @@ at_least = 19
 abbrev pub max_change : ℕ
 max_change = 20
 
+abbrev pub json_field : ℕ
+json_field = 21
+
+abbrev pub whole : ℕ
+whole = 22
+
+abbrev pub masks : ℕ
+masks = 23
+
+abbrev pub all : ℕ
+all = 24
+
 -- the options, in the order of their rows
 abbrev pub entries : List Entry
 entries =
@@ -83,16 +95,19 @@ entries =
     ∷ long (codes "--ipv4") kinds.Number true ∷ long (codes "--ipv6") kinds.Number true
     ∷ long (codes "--max-others") kinds.Text true ∷ long_flag (codes "--allow-empty")
     ∷ long (codes "--at-least") kinds.Number true ∷ long (codes "--max-change") kinds.Text true
+    ∷ long (codes "--json-field") kinds.Text true ∷ long_flag (codes "--whole") ∷ long_flag (codes "--masks")
+    ∷ long_flag (codes "--all")
     ∷ alone (codes "--help") ∷ alone (codes "--version") ∷ alone (codes "--quiet") ∷ []
 
 -- the pairs of options that exclude each other: two output forms, a number for one family and one for each, a least
--- number of networks and none, or an option with a value given twice
+-- number of networks and none, documents and what is asked of lines, or an option with a value given twice
 abbrev pub pairs : List (ℕ × ℕ)
 pairs =
     (ranges, count) ∷ (format, format) ∷ (format, ranges) ∷ (format, count) ∷ (prefix, prefix) ∷ (set, set)
     ∷ (table, table) ∷ (before, before) ∷ (after, after) ∷ (from, from) ∷ (most, most) ∷ (maxelem, maxelem)
     ∷ (most, ipv4) ∷ (most, ipv6) ∷ (ipv4, ipv4) ∷ (ipv6, ipv6) ∷ (max_others, max_others)
-    ∷ (at_least, at_least) ∷ (max_change, max_change) ∷ (allow_empty, at_least) ∷ []
+    ∷ (at_least, at_least) ∷ (max_change, max_change) ∷ (allow_empty, at_least) ∷ (json, whole) ∷ (json, masks)
+    ∷ (json_field, whole) ∷ (json_field, masks) ∷ []
 
 -- the table has these options and pairs
 abbrev pub IsOptions : Table → Type 0
@@ -101,18 +116,22 @@ IsOptions options = IsTable options entries pairs []
 -- the options that a task takes, by the indices of their rows
 abbrev pub taken : Task → List ℕ
 taken (tasks.Merge operations.Differ) =
-    text ∷ ranges ∷ count ∷ format ∷ set ∷ table ∷ maxelem ∷ before ∷ after ∷ skip_bad ∷ json ∷ strict ∷ allow_empty
-    ∷ at_least ∷ max_change ∷ []
+    text ∷ ranges ∷ count ∷ format ∷ set ∷ table ∷ maxelem ∷ before ∷ after ∷ skip_bad ∷ json ∷ json_field ∷ strict
+    ∷ whole ∷ masks ∷ allow_empty ∷ at_least ∷ max_change ∷ []
 taken (tasks.Merge operation) =
-    text ∷ ranges ∷ count ∷ format ∷ set ∷ table ∷ maxelem ∷ before ∷ after ∷ skip_bad ∷ json ∷ strict ∷ allow_empty
-    ∷ at_least ∷ []
+    text ∷ ranges ∷ count ∷ format ∷ set ∷ table ∷ maxelem ∷ before ∷ after ∷ skip_bad ∷ json ∷ json_field ∷ strict
+    ∷ whole ∷ masks ∷ allow_empty ∷ at_least ∷ []
 taken tasks.List =
-    text ∷ ranges ∷ count ∷ format ∷ set ∷ table ∷ maxelem ∷ before ∷ after ∷ skip_bad ∷ json ∷ strict ∷ allow_empty
-    ∷ at_least ∷ []
-taken tasks.Split = text ∷ prefix ∷ before ∷ after ∷ skip_bad ∷ json ∷ strict ∷ at_least ∷ []
+    text ∷ ranges ∷ count ∷ format ∷ set ∷ table ∷ maxelem ∷ before ∷ after ∷ skip_bad ∷ json ∷ json_field ∷ strict
+    ∷ whole ∷ masks ∷ allow_empty ∷ at_least ∷ []
+taken tasks.Split =
+    text ∷ prefix ∷ before ∷ after ∷ skip_bad ∷ json ∷ json_field ∷ strict
+    ∷ whole ∷ masks ∷ at_least ∷ []
 taken tasks.Reduce =
-    text ∷ ranges ∷ count ∷ format ∷ set ∷ table ∷ maxelem ∷ before ∷ after ∷ skip_bad ∷ json ∷ strict ∷ allow_empty
-    ∷ at_least ∷ most ∷ ipv4 ∷ ipv6 ∷ max_others ∷ []
+    text ∷ ranges ∷ count ∷ format ∷ set ∷ table ∷ maxelem ∷ before ∷ after ∷ skip_bad ∷ json ∷ json_field ∷ strict
+    ∷ whole ∷ masks ∷ allow_empty ∷ at_least ∷ most ∷ ipv4 ∷ ipv6 ∷ max_others ∷ []
 taken tasks.Check = text ∷ strict ∷ []
 taken tasks.Overlaps = text ∷ []
 taken tasks.Find = text ∷ from ∷ []
+taken tasks.Free =
+    text ∷ prefix ∷ all ∷ before ∷ after ∷ skip_bad ∷ json ∷ json_field ∷ strict ∷ whole ∷ masks ∷ allow_empty ∷ []

@@ -27,10 +27,10 @@ pub record ReadsSide {Z : Type 0} (from : Source) (number : ℕ) (names : List (
   pub v6 : IsAggregate 128 read.v6 sets.v6
   pub refused_lines : read.refused ≡ refused
 
--- the lists of both sides were read
-pub record ReadsSides {Z : Type 0} (known : KnownLists) (words : List (String Z))
-    (request : Request) (first second : Sets) (refused : Refused) : Type 0 where
+-- the lists of both sides were read, of JSON documents maybe only these fields
+pub record ReadsSides {Z : Type 0} (known : KnownLists) (fields : List (List ℕ))
+    (words : List (String Z)) (request : Request) (first second : Sets) (refused : Refused) : Type 0 where
   pub between : Refused
-  pub firsts : ReadsSide (source known request.shape) 0 (take request.middle words) no_refusals first between
-  pub seconds : ReadsSide (source known request.shape) request.middle
+  pub firsts : ReadsSide (source known fields request.shape) 0 (take request.middle words) no_refusals first between
+  pub seconds : ReadsSide (source known fields request.shape) request.middle
       (drop request.middle words) between second refused

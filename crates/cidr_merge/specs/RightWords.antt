@@ -37,7 +37,7 @@ is_value row text =
     else if row == own.max_others || row == own.max_change then is_some (bound_in text)
     else if row == own.set || row == own.table then is_set_name text
     else if row == own.maxelem then is_limit text
-    else if row == own.from || row == own.text then not (length text == 0)
+    else if (row == own.from || row == own.text) || row == own.json_field then not (length text == 0)
     else true
 
 -- whether an item is an option that the task does not take, or that has no value or a wrong one, or is no option
@@ -53,9 +53,10 @@ is_wrong task (says.Lacks row) = true
 abbrev pub has_count : List Item → Bool
 has_count items = (is_given items own.most || is_given items own.ipv4) || is_given items own.ipv6
 
--- whether a `split` has no prefix length, or a `reduce` no number of networks
+-- whether a `split` or a `free` has no prefix length, or a `reduce` no number of networks
 abbrev pub lacks_value : Task → List Item → Bool
 lacks_value tasks.Split items = not (is_given items own.prefix)
+lacks_value tasks.Free items = not (is_given items own.prefix)
 lacks_value tasks.Reduce items = not (has_count items)
 lacks_value task items = false
 

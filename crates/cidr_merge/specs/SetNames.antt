@@ -1,20 +1,22 @@
--- The names of the sets that an export fills, their limit, and the texts around each line.
+-- The names of the sets that an export fills, their limit, the texts around each line, and the names of fields of JSON.
 use Rattle.std.specs.Prelude.{ℕ, ◌==◌, ◌&&◌, ◌||◌, Bool, false, not, List, [], ◌∷◌, ◌++◌, length, nat_lt, nat_le}
 use Rattle.std.specs.Prelude.{codes, if◌then◌else◌, Option, None, Some}
 use Rattle.std.specs.List.{concat, list_all}
 use Rattle.options.specs.Given.{is_given, value_of}
 use Rattle.options.specs.Values.{number_in}
 use Rattle.options.specs.declared.items.Item.{Item}
+use Rattle.cidr_merge.specs.FieldNames.{fields_of}
 use Rattle.cidr_merge.specs.Options as own
 
 -- the table of nftables, the beginning of the names of both sets, the number of elements that a set of ipset is made
--- for, and the texts before and after each line
+-- for, the texts before and after each line, and the names of the fields whose strings are read
 pub record Names : Type 0 where
   pub table : List ℕ
   pub set : List ℕ
   pub limit : List ℕ
   pub before : List ℕ
   pub after : List ℕ
+  pub fields : List (List ℕ)
 
 -- a text as a name; empty if it has more than 22 bytes
 abbrev pub name_in : List ℕ → List ℕ
@@ -35,6 +37,7 @@ names_of items = record {
   limit = limit_by items;
   before = value_of items own.before;
   after = value_of items own.after;
+  fields = fields_of items;
 }
 
 -- a line of these texts, with the texts before and after each line

@@ -26,11 +26,11 @@ pub record Stops {Z : Type 0} (from : Source) (number : ℕ) (names : List (Stri
   pub stops : StopsOne from (number + length first) (string_bytes name) between fault refused
 
 -- the reading stops at a list of the first side, or, if those were read, at one of the second
-abbrev pub StopsInSides : {Z : Type 0} → KnownLists → List (String Z) → Request → ReadFault → Type 0
-StopsInSides known words request fault =
-    Stops (source known request.shape) 0 (take request.middle words)
+abbrev pub StopsInSides : {Z : Type 0} → KnownLists → List (List ℕ) → List (String Z) → Request → ReadFault → Type 0
+StopsInSides known fields words request fault =
+    Stops (source known fields request.shape) 0 (take request.middle words)
     (nothing_read (rules_of request.shape) no_refusals) fault
     ⊎ ((first : Sets) × (between : Refused)
-    × ReadsSide (source known request.shape) 0 (take request.middle words) no_refusals first between
-    × Stops (source known request.shape) request.middle (drop request.middle words)
+    × ReadsSide (source known fields request.shape) 0 (take request.middle words) no_refusals first between
+    × Stops (source known fields request.shape) request.middle (drop request.middle words)
     (nothing_read (rules_of request.shape) between) fault)

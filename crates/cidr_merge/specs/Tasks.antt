@@ -17,6 +17,7 @@ task_called text =
     else if bytes_eq text (codes "check") then Some tasks.Check
     else if bytes_eq text (codes "overlaps") then Some tasks.Overlaps
     else if bytes_eq text (codes "find") then Some tasks.Find
+    else if bytes_eq text (codes "free") then Some tasks.Free
     else None
 
 -- whether a task has two sides, with a `--` between them
@@ -24,4 +25,5 @@ abbrev pub is_two_sided : Task → Bool
 is_two_sided (tasks.Merge operations.Union) = false
 is_two_sided (tasks.Merge operation) = true
 is_two_sided tasks.Find = true
+is_two_sided tasks.Free = true
 is_two_sided task = false

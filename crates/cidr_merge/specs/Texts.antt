@@ -5,7 +5,7 @@ use Rattle.lists.specs.Bytes.{IsAllOf}
 use Rattle.lists.specs.KnownLists.{KnownLists}
 use Rattle.cidr_merge.specs.NamedLists.{text_in}
 use Rattle.lists.specs.declared.named.ReadFault.{ReadFault}
-use Rattle.lists.specs.declared.named.ReadFault.TheVariants.{Open, Read, Length, NotJson}
+use Rattle.lists.specs.declared.named.ReadFault.TheVariants.{Open, Read, Length, NotJson, NoField, Cut}
 use Rattle.lists.specs.declared.named.ReadFault.TheVariants.{OutOfMemory}
 
 -- these are the bytes of the list of this name: the TEXT itself, or all bytes of the FILE
@@ -30,9 +30,11 @@ abbrev pub FileStops : KnownLists → List ℕ → ReadFault → Type 0
 FileStops known name (Open place cause) = known.may_open name false × known.may_miss name cause
 -- a read of it fails
 FileStops known name (Read place) = known.may_open name true × known.may_fail name
--- it may have any length and any text
+-- it may have any length, any text and any end
 FileStops known name (Length place) = ⊥
 FileStops known name (NotJson place line encoding) = ⊥
+FileStops known name (Cut place) = ⊥
+FileStops known name (NoField place) = ⊥
 -- memory runs out for it
 FileStops known name OutOfMemory = Unit {0}
 

@@ -4,8 +4,9 @@ ghost use Rattle.std.specs.String.{string_bytes};
 ghost use Rattle.cidr_merge.specs.RightWords.{from_of};
 ghost use Rattle.cidr_merge.specs.Bounds.{bound_of, change_of};
 ghost use Rattle.cidr_merge.specs.CommandLines.{request_of, reduction_of, inspection_of, asked_for};
+ghost use Rattle.cidr_merge.specs.CommandLines.{free_of};
 ghost use Rattle.cidr_merge.specs.CommandLines.{command_for, command_of, told_of, sets_by, sets_of};
-ghost use Rattle.cidr_merge.specs.Forms.{form_called, form_of, shape_of, without_plus};
+ghost use Rattle.cidr_merge.specs.Forms.{form_called, form_of, rules_by, shape_of, without_plus};
 ghost use Rattle.cidr_merge.specs.Forms.{prefix_in, length_of, most_in, most_of, at_least_of};
 ghost use Rattle.cidr_merge.specs.Private.Words.{IsCommandWithin};
 
@@ -15,12 +16,13 @@ use crate::exports::Export;
 use crate::faults::{fault_of, from_count, no_task_fault};
 use crate::named_lists::{add_file, lists_of};
 use crate::rows::{
-    ALLOW_EMPTY, AT_LEAST, COUNT, FORMAT, FROM, IPV4, IPV6, JSON, MAX_CHANGE, MAX_OTHERS, MOST,
-    PREFIX, RANGES, SKIP_BAD, STRICT, table,
+    ALL, ALLOW_EMPTY, AT_LEAST, COUNT, FORMAT, FROM, IPV4, IPV6, JSON, JSON_FIELD, MASKS,
+    MAX_CHANGE, MAX_OTHERS, MOST, PREFIX, RANGES, SKIP_BAD, STRICT, WHOLE, table,
 };
 use crate::set_names::{SetNames, names_of};
 use crate::shapes::Shape;
 use crate::tasks::{Task, task_called};
+use lists::Rules;
 use options::faults::{Fault, Subject, about};
 use options::given::{is_given, value_of};
 use options::items::Item;
@@ -105,6 +107,17 @@ pub struct ReduceRequest {
     pub merge: Request,
 }
 
+/// Which free networks are looked for.
+#[derive(Clone, Copy, Debug, PartialEq, Eq)]
+pub struct FreeRequest {
+    /// The prefix length of the networks.
+    pub length: u8,
+    /// Whether each of them is printed, or only the first.
+    pub all: bool,
+    /// How the pools and the used addresses are read: as the sides of a `minus`.
+    pub merge: Request,
+}
+
 /// How lists are looked over.
 #[derive(Clone, Copy, Debug, PartialEq, Eq)]
 pub enum Inspection {
@@ -129,6 +142,8 @@ pub enum Command {
     Inspect(Inspection),
     /// The lists after so many addresses, and so many lists of addresses, are searched for these.
     Find(usize, usize),
+    /// Free networks of the lists of the first side are looked for.
+    Free(FreeRequest),
 }
 
 /// What is asked for, and the FILEs, those of the first side first.
@@ -193,7 +208,7 @@ fn command_for<'a>(
         None => Ok(Ok(Asked {
             command: asked_for(task, items, middle),
             names,
-            sets: names_of(items),
+            sets: names_of(alloc, items)?,
         })),
     }
 }
@@ -238,6 +253,7 @@ fn asked_for(task: Task, items: &[Item<'_>], middle: usize) -> Command
         Task::Check => Command::Inspect(inspection_of(is_given(items, STRICT))),
         Task::Overlaps => Command::Inspect(Inspection::Overlaps),
         Task::Find => Command::Find(middle, from_count(task, items)),
+        Task::Free => Command::Free(free_of(items, middle)),
     }
 }
 
@@ -267,6 +283,17 @@ fn reduction_of(items: &[Item<'_>], middle: usize) -> ReduceRequest
         is_of_one: is_given(items, MOST),
         bound: bound_of(items),
         merge: request_of(Operation::Union, Form::Blocks, items, middle),
+    }
+}
+
+// Which free networks these options ask for.
+fn free_of(items: &[Item<'_>], middle: usize) -> FreeRequest
+    ensures { result ≡ free_of items.now middle }
+{
+    FreeRequest {
+        length: length_of(items),
+        all: is_given(items, ALL),
+        merge: request_of(Operation::Minus, Form::Blocks, items, middle),
     }
 }
 
@@ -301,11 +328,29 @@ pub(crate) fn form_of(usual: Form, items: &[Item<'_>]) -> Form
 fn shape_of(items: &[Item<'_>]) -> Shape
     ensures { result ≡ shape_of items.now }
 {
-    match (is_given(items, JSON), is_given(items, STRICT)) {
-        (false, false) => Shape::Lines,
-        (false, true) => Shape::StrictLines,
+    let is_strict = is_given(items, STRICT);
+    if is_given(items, JSON_FIELD) {
+        return if is_strict {
+            Shape::StrictFields
+        } else {
+            Shape::Fields
+        };
+    }
+    match (is_given(items, JSON), is_strict) {
+        (false, _) => Shape::Lines(rules_by(items)),
         (true, false) => Shape::Json,
         (true, true) => Shape::StrictJson,
+    }
+}
+
+// The rules of lists of lines that these options give.
+fn rules_by(items: &[Item<'_>]) -> Rules
+    ensures { result ≡ rules_by items.now }
+{
+    Rules {
+        refuses_host_bits: is_given(items, STRICT),
+        is_whole: is_given(items, WHOLE),
+        takes_masks: is_given(items, MASKS),
     }
 }
 

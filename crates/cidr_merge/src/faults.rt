@@ -12,8 +12,8 @@ use crate::bounds::bound_in;
 use crate::command_line::{Form, Operation, form_called, form_of, most_in, prefix_in};
 use crate::exports::Export;
 use crate::rows::{
-    AFTER, AT_LEAST, BEFORE, FORMAT, FROM, IPV4, IPV6, MAX_CHANGE, MAX_OTHERS, MAXELEM, MOST,
-    PREFIX, SET, TABLE, TEXT, taken,
+    AFTER, AT_LEAST, BEFORE, FORMAT, FROM, IPV4, IPV6, JSON_FIELD, MAX_CHANGE, MAX_OTHERS, MAXELEM,
+    MOST, PREFIX, SET, TABLE, TEXT, taken,
 };
 use crate::set_names::{is_limit, is_set_name};
 use crate::tasks::{ONE_SIDE, Task, is_two_sided, no_first, no_option};
@@ -78,7 +78,7 @@ fn is_value(row: usize, text: &str) -> bool
         MAX_OTHERS | MAX_CHANGE => bound_in(text).is_some(),
         SET | TABLE => is_set_name(text),
         MAXELEM => is_limit(text),
-        FROM | TEXT => !text.is_empty(),
+        FROM | TEXT | JSON_FIELD => !text.is_empty(),
         _ => true,
     }
 }
@@ -133,13 +133,16 @@ fn has_count(items: &[Item<'_>]) -> bool
     is_given(items, MOST) || is_given(items, IPV4) || is_given(items, IPV6)
 }
 
-// The fault if a `split` has no prefix length, or a `reduce` no number of networks.
+// The fault if a `split` or a `free` has no prefix length, or a `reduce` no number of networks.
 fn lacks_fault<'a>(task: Task, items: &[Item<'_>]) -> Option<Fault<'a>>
     ensures { is_some result ≡ lacks_value task items.now }
 {
     match task {
         Task::Split if !is_given(items, PREFIX) => {
             Some(about(Subject::CommandLine, "split: no --prefix N"))
+        }
+        Task::Free if !is_given(items, PREFIX) => {
+            Some(about(Subject::CommandLine, "free: no --prefix N"))
         }
         Task::Reduce if !has_count(items) => {
             Some(about(

@@ -7,13 +7,14 @@ Merges lists of IP networks, and prints the shortest list with exactly the resul
     cidr_merge union  [OPTION..] FILE..             the addresses of any of the files
     cidr_merge common [OPTION..] FILE.. -- FILE..   the addresses of both sides
     cidr_merge minus  [OPTION..] FILE.. -- FILE..   the addresses of only the first side
-    cidr_merge differ [OPTION..] FILE.. -- FILE..   the addresses of only one of the sides
+    cidr_merge differ [OPTION..] FILE.. -- FILE..   what only the first has (<), or the second (>)
     cidr_merge list   [OPTION..] FILE..             each address of any of the files
     cidr_merge split --prefix N [OPTION..] FILE..   the networks of union, in pieces of length N
     cidr_merge reduce [--most] N [OPTION..] FILE..  at most N networks with all of union, few others
     cidr_merge check  [--strict] FILE..             wrong entries; --strict: host bits, overlaps too
     cidr_merge overlaps FILE..                      wrong entries, and each pair that overlaps
     cidr_merge find [--from FILE] ADDRESS.. -- FILE..  entries that have one; --from: or one of FILE
+    cidr_merge free --prefix N [--all] FILE.. -- FILE..  the first /N in minus; --all: each of them
 
     -e TEXT        take this network or range as a FILE, with --json too
     --ranges       print FIRST - LAST of each run; --count: v4 BLOCKS ADDRESSES, v6 BLOCKS ADDRESSES
@@ -25,14 +26,13 @@ Merges lists of IP networks, and prints the shortest list with exactly the resul
     --at-least N   refuse a result of fewer networks; --allow-empty: print sets without elements
     --max-change N  refuse it if more than N addresses of a family went or came, or N% of the old
     --skip-bad     report refused lines, use the others; --strict: refuse host bits (10.0.0.5/8) too
-    --json         each FILE is JSON: use its strings that are entries; --strict: refuse the others
+    --whole        refuse a FILE without a line feed at its end; --masks: take ADDRESS MASK too
+    --json         use the strings of JSON that are entries; --json-field NAME: those of fields NAME
     --quiet        as first word: no progress; --help prints this text, as -h; --version the version
 
-The FILE - is standard input. A line has a network (10.0.0.0/8, 10.0.0.1, 2001:db8::/32), a range (A
-- B) or nothing; # and ; begin a comment. Host bits are ignored. Results ascend, IPv4 first; differ
-puts < before what only the first side has, > before what the second has. nft and ipset without a
-network are refused. Status: 0; 1 if the sides of differ are unequal, check or overlaps found
-something, or find nothing; 2 after a fault or a refused line or result; 3 if lines were skipped.
+FILE - is standard input. A line has a network (10.0.0.0/8, ::1), a range (A - B) or nothing; # and
+; begin a comment. Host bits are ignored. Results ascend, IPv4 first. Status: 0; 1 if differ, check
+or overlaps found something, or find or free nothing; 2 after a refusal; 3 if it skipped lines.
 Example: sort -u today.txt | cidr_merge differ --count yesterday.txt -- -
 ";
 
@@ -44,5 +44,5 @@ pub(crate) const PROGRAM: &str = "cidr_merge";
 
 /// What is reported for arguments that are not a command, after what is wrong with them.
 pub(crate) const USAGE: &str =
-    "usage: cidr_merge union|common|minus|differ|list|split|reduce|check|overlaps \
+    "usage: cidr_merge union|common|minus|differ|list|split|reduce|check|overlaps|free \
      [OPTION..] FILE.. [-- FILE..], or find [--from FILE] ADDRESS.. -- FILE..; try --help\n";

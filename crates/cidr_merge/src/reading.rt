@@ -35,10 +35,11 @@ pub(crate) fn read_side<L: OpenLists>(
     refusals: Refusals,
 ) -> (Sets, Refusals, Result<(), ReadFault>)
     requires { first + length names.now < 2 ^ 64 }
-    ensures read { OnOk result.2 (ReadsSide (source (L.known context.now.lists.now) shape) first
-        names.now refusals result.0 result.1) }
-    ensures stopped { IfErr result.2 (Stops (source (L.known context.now.lists.now) shape)
-        first names.now (nothing_read (rules_of shape) refusals)) }
+    ensures read { OnOk result.2 (ReadsSide (source (L.known context.now.lists.now)
+        context.now.sets.now.fields shape) first names.now refusals result.0 result.1) }
+    ensures stopped { IfErr result.2 (Stops (source (L.known context.now.lists.now)
+        context.now.sets.now.fields shape) first names.now
+        (nothing_read (rules_of shape) refusals)) }
 {
     let mut reader = ListReader::new(context.alloc, rules_of(shape), refusals);
     let end = read_all(context, shape, names, first, &mut reader);
@@ -70,11 +71,11 @@ fn read_all<L: OpenLists>(
 ) -> Result<(), ReadFault>
     requires fits { first + length names.now < 2 ^ 64 }
     requires memory { reader.old.is_out_of_memory ≡ false }
-    ensures read { OnOk result (ReadsLists (source (L.known context.now.lists.now) shape) first
-        names.now reader.old reader.new) }
+    ensures read { OnOk result (ReadsLists (source (L.known context.now.lists.now)
+        context.now.sets.now.fields shape) first names.now reader.old reader.new) }
     ensures memory { OnOk result (reader.new.is_out_of_memory ≡ false) }
-    ensures stopped { IfErr result (Stops (source (L.known context.now.lists.now) shape)
-        first names.now reader.old) }
+    ensures stopped { IfErr result (Stops (source (L.known context.now.lists.now)
+        context.now.sets.now.fields shape) first names.now reader.old) }
 {
     for place in 0..names.len() {
         read_one(context, shape, names[place].as_str(), first + place, reader)?;

@@ -69,8 +69,20 @@ pub(crate) const AT_LEAST: usize = 19;
 /// The row of `--max-change`.
 pub(crate) const MAX_CHANGE: usize = 20;
 
+/// The row of `--json-field`.
+pub(crate) const JSON_FIELD: usize = 21;
+
+/// The row of `--whole`.
+pub(crate) const WHOLE: usize = 22;
+
+/// The row of `--masks`.
+pub(crate) const MASKS: usize = 23;
+
+/// The row of `--all`.
+pub(crate) const ALL: usize = 24;
+
 // The options.
-const ROWS: [Row; 24] = [
+const ROWS: [Row; 28] = [
     long!("--ranges", Flag, false, ""),
     long!("--count", Flag, false, ""),
     long!(
@@ -103,6 +115,10 @@ const ROWS: [Row; 24] = [
     long!("--allow-empty", Flag, false, ""),
     long!("--at-least", Number, true, NO_COUNT),
     long!("--max-change", Text, true, NO_BOUND),
+    long!("--json-field", Text, true, "not a name of a field"),
+    long!("--whole", Flag, false, ""),
+    long!("--masks", Flag, false, ""),
+    long!("--all", Flag, false, ""),
     long!("--help", Alone, false, "not the only argument"),
     long!("--version", Alone, false, "not the only argument"),
     long!(
@@ -130,7 +146,7 @@ const TWO_COUNTS: &str = "--most: not together with --ipv4 or --ipv6";
 const ANOTHER_FORM: &str = "--format: given twice, or together with --ranges or --count";
 
 // The pairs of options that exclude each other.
-const PAIRS: [Pair; 20] = [
+const PAIRS: [Pair; 24] = [
     pair!(RANGES, COUNT, "--ranges: not together with --count"),
     pair!(FORMAT, FORMAT, ANOTHER_FORM),
     pair!(FORMAT, RANGES, ANOTHER_FORM),
@@ -155,6 +171,10 @@ const PAIRS: [Pair; 20] = [
         AT_LEAST,
         "--allow-empty: not together with --at-least"
     ),
+    pair!(JSON, WHOLE, "--whole: not together with --json"),
+    pair!(JSON, MASKS, "--masks: not together with --json"),
+    pair!(JSON_FIELD, WHOLE, "--whole: not together with --json-field"),
+    pair!(JSON_FIELD, MASKS, "--masks: not together with --json-field"),
 ];
 
 /// The options.
@@ -169,9 +189,9 @@ pub(crate) fn table() -> Table<'static>
     }
 }
 
-// The options of a merge, a `differ`, a `split`, a `reduce` and a `check`, by the indices of their
-// rows.
-const OF_MERGES: [usize; 14] = [
+// The options of a merge, a `differ`, a `split`, a `reduce`, a `check` and a `free`, by the indices
+// of their rows.
+const OF_MERGES: [usize; 17] = [
     TEXT,
     RANGES,
     COUNT,
@@ -183,12 +203,15 @@ const OF_MERGES: [usize; 14] = [
     AFTER,
     SKIP_BAD,
     JSON,
+    JSON_FIELD,
     STRICT,
+    WHOLE,
+    MASKS,
     ALLOW_EMPTY,
     AT_LEAST,
 ];
 
-const OF_DIFFER: [usize; 15] = [
+const OF_DIFFER: [usize; 18] = [
     TEXT,
     RANGES,
     COUNT,
@@ -200,17 +223,20 @@ const OF_DIFFER: [usize; 15] = [
     AFTER,
     SKIP_BAD,
     JSON,
+    JSON_FIELD,
     STRICT,
+    WHOLE,
+    MASKS,
     ALLOW_EMPTY,
     AT_LEAST,
     MAX_CHANGE,
 ];
 
-const OF_SPLIT: [usize; 8] = [
-    TEXT, PREFIX, BEFORE, AFTER, SKIP_BAD, JSON, STRICT, AT_LEAST,
+const OF_SPLIT: [usize; 11] = [
+    TEXT, PREFIX, BEFORE, AFTER, SKIP_BAD, JSON, JSON_FIELD, STRICT, WHOLE, MASKS, AT_LEAST,
 ];
 
-const OF_REDUCE: [usize; 18] = [
+const OF_REDUCE: [usize; 21] = [
     TEXT,
     RANGES,
     COUNT,
@@ -222,7 +248,10 @@ const OF_REDUCE: [usize; 18] = [
     AFTER,
     SKIP_BAD,
     JSON,
+    JSON_FIELD,
     STRICT,
+    WHOLE,
+    MASKS,
     ALLOW_EMPTY,
     AT_LEAST,
     MOST,
@@ -232,6 +261,21 @@ const OF_REDUCE: [usize; 18] = [
 ];
 
 const OF_CHECK: [usize; 2] = [TEXT, STRICT];
+
+const OF_FREE: [usize; 12] = [
+    TEXT,
+    PREFIX,
+    ALL,
+    BEFORE,
+    AFTER,
+    SKIP_BAD,
+    JSON,
+    JSON_FIELD,
+    STRICT,
+    WHOLE,
+    MASKS,
+    ALLOW_EMPTY,
+];
 
 /// The options that a task takes, by the indices of their rows.
 pub(crate) fn taken(task: Task) -> &'static [usize]
@@ -245,5 +289,6 @@ pub(crate) fn taken(task: Task) -> &'static [usize]
         Task::Check => &OF_CHECK,
         Task::Overlaps => &[TEXT],
         Task::Find => &[TEXT, FROM],
+        Task::Free => &OF_FREE,
     }
 }

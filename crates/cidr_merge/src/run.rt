@@ -13,6 +13,7 @@ ghost use Rattle.cidr_merge.specs.Stopping.{StopsInSides};
 use crate::command_line::{Command, Operation, Request, command_of};
 use crate::context::Context;
 use crate::find::find;
+use crate::free::free;
 use crate::held_back::is_held_back;
 use crate::help::{HELP, PROGRAM, USAGE, VERSION};
 use crate::inspecting::inspect;
@@ -103,6 +104,7 @@ fn obey<L: OpenLists, W: Write, E: Write>(
         Command::Reduce(request) => reduce(request, context, output, errors),
         Command::Inspect(inspection) => inspect(inspection, context, output, errors),
         Command::Find(middle, from) => find(middle, from, rows, context, output, errors),
+        Command::Free(request) => free(request, context, output, errors),
     }
 }
 
@@ -133,17 +135,17 @@ fn merge<L: OpenLists, W: Write, E: Write>(
     }
 }
 
-// Reads the lists of both sides. The lists of the second side are read only if those of the first
-// were read to their ends.
-fn read_sides<L: OpenLists>(
+/// Reads the lists of both sides. The lists of the second side are read only if those of the first
+/// were read to their ends.
+pub(crate) fn read_sides<L: OpenLists>(
     request: Request,
     context: &Context<'_, L>,
 ) -> (Sets, Sets, Refusals, Result<(), ReadFault>)
     requires { request.middle ≤ length context.now.names.now }
-    ensures read { OnOk result.3 (ReadsSides (L.known context.now.lists.now) context.now.names.now
-        request result.0 result.1 result.2) }
+    ensures read { OnOk result.3 (ReadsSides (L.known context.now.lists.now)
+        context.now.sets.now.fields context.now.names.now request result.0 result.1 result.2) }
     ensures stopped { IfErr result.3 (StopsInSides (L.known context.now.lists.now)
-        context.now.names.now request) }
+        context.now.sets.now.fields context.now.names.now request) }
 {
     let shape = request.shape;
     let none = Refusals::new();

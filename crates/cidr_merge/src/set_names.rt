@@ -1,10 +1,13 @@
-//! The names of the sets that an export fills, their limit, and the texts around each line.
-ghost use Rattle.std.specs.Prelude.{◌≡◌, ◌∷◌, []};
+//! The names of the sets that an export fills, their limit, the texts around each line, and the
+//! names of fields of JSON.
+ghost use Rattle.std.specs.Prelude.{◌≡◌, ◌∷◌, [], IfOk, map};
+ghost use Rattle.std.specs.String.{string_bytes};
 ghost use Rattle.std.specs.List.{list_all};
 ghost use Rattle.cidr_merge.specs.SetNames.{is_letter, is_name_byte, is_set_name, name_by};
 ghost use Rattle.cidr_merge.specs.SetNames.{is_limit, limit_by, line_of, name_in, names_of};
 ghost use Rattle.program.specs.Putting.{PutsOrFails};
 
+use crate::field_names::fields_of;
 use crate::rows::{AFTER, BEFORE, MAXELEM, SET, TABLE};
 use arrayvec::ArrayString;
 use lines::fault::RunFault;
@@ -13,6 +16,7 @@ use options::given::{is_given, value_of};
 use options::items::Item;
 use options::values::number_in;
 use program::putting::put_all;
+use std::alloc::{AllocError, Global};
 use std::io::Write;
 use std::marker::Model;
 
@@ -26,7 +30,7 @@ const MOST_ELEMENTS: u64 = 4_294_967_295;
 pub(crate) type Name = ArrayString<NAME_MAX>;
 
 /// The table of nftables, the beginning of both sets' names, how many elements a set of ipset is
-/// made for, and the texts around each line.
+/// made for, the texts around each line, and the names of the fields of JSON that are read.
 #[derive(Debug, Drop)]
 pub struct SetNames<'a> {
     /// The table.
@@ -39,10 +43,14 @@ pub struct SetNames<'a> {
     pub before: &'a str,
     /// The text after each line.
     pub after: &'a str,
+    /// The names of the fields whose strings are read.
+    pub fields: Vec<String>,
 }
 
 // Contracts see the bytes of the names.
 impl<'a> Model for SetNames<'a> {
+    ghost use Rattle.std.specs.Prelude.{map};
+    ghost use Rattle.std.specs.String.{string_bytes};
     ghost use Rattle.cidr_merge.specs.SetNames.{Names};
 
     ghost Value = { Names };
@@ -53,20 +61,33 @@ impl<'a> Model for SetNames<'a> {
       limit = names.limit.now;
       before = names.before.now;
       after = names.after.now;
+      fields = map string_bytes names.fields.items;
     } };
 }
 
-/// Returns the names and texts that options give, with defaults for those not given.
-pub(crate) fn names_of<'a>(items: &[Item<'a>]) -> SetNames<'a>
-    ensures { result ≡ names_of items.now }
+impl<'a> SetNames<'a> {
+    /// The names of the fields whose strings are read.
+    pub(crate) fn field_names(&self) -> &[String]
+        ensures { map string_bytes result.now ≡ self.now.fields }
+    {
+        self.fields.as_slice()
+    }
+}
+
+/// Returns the names and texts that options give, with defaults for those not given. `AllocError`:
+/// out of memory.
+pub(crate) fn names_of<'a>(alloc: Global, items: &[Item<'a>]) -> Result<SetNames<'a>, AllocError>
+    ensures { IfOk result (λ names. names ≡ names_of items.now) }
 {
-    SetNames {
+    let fields = fields_of(alloc, items)?;
+    Ok(SetNames {
         table: name_by(items, TABLE),
         set: name_by(items, SET),
         limit: limit_by(items),
         before: value_of(items, BEFORE),
         after: value_of(items, AFTER),
-    }
+        fields,
+    })
 }
 
 /// Prints a line: a text, between the texts before and after each line.

@@ -1,30 +1,42 @@
 //! The formats of lists, and how a list is read.
-ghost use Rattle.std.specs.Prelude.{◌≡◌, false, OnOk, IfErr};
-ghost use Rattle.cidr_merge.specs.Shapes.{rules_of, source, ReadsBy, ReadsOne, StopsBy, StopsOne};
+ghost use Rattle.std.specs.Prelude.{◌≡◌, false, map, OnOk, IfErr};
+ghost use Rattle.std.specs.String.{string_bytes};
+ghost use Rattle.cidr_merge.specs.Shapes.{rules_of, source, strings_in};
+ghost use Rattle.cidr_merge.specs.Shapes.{ReadsBy, ReadsOne, StopsBy, StopsOne};
 
 use crate::context::Context;
 use crate::named_lists::text_in;
-use lists::{ListReader, OpenLists, ReadFault, Rules, read_document, read_named, read_text};
+use lists::{
+    FieldNames, ListReader, OpenLists, ReadFault, Rules, Strings, read_document, read_named,
+    read_text,
+};
 
 /// The format of lists.
 #[derive(Clone, Copy, Debug, PartialEq, Eq)]
 pub enum Shape {
-    /// Text with one entry on a line.
-    Lines,
-    /// Such text; entries with host bits are refused.
-    StrictLines,
+    /// Text with one entry on a line, by these rules.
+    Lines(Rules),
     /// JSON documents; strings that name no entry are refused only if they look like one.
     Json,
     /// JSON documents; strings that name no entry are refused, and entries with host bits.
     StrictJson,
+    /// JSON documents; only strings of fields are read, and those that name no entry are refused.
+    Fields,
+    /// Such documents; entries with host bits are refused too.
+    StrictFields,
 }
 
 /// Returns the rules of lists of this format.
 pub(crate) fn rules_of(shape: Shape) -> Rules
     ensures { result ≡ rules_of shape }
 {
-    Rules {
-        refuses_host_bits: matches!(shape, Shape::StrictLines | Shape::StrictJson),
+    match shape {
+        Shape::Lines(rules) => rules,
+        Shape::Json | Shape::Fields => Rules::lenient(),
+        Shape::StrictJson | Shape::StrictFields => Rules {
+            refuses_host_bits: true,
+            ..Rules::lenient()
+        },
     }
 }
 
@@ -36,15 +48,27 @@ pub(crate) fn read_one<L: OpenLists>(
     place: usize,
     reader: &mut ListReader,
 ) -> Result<(), ReadFault>
-    ensures read { OnOk result (ReadsOne (source (L.known context.now.lists.now) shape) place
-        name.now reader.old reader.new) }
+    ensures read { OnOk result (ReadsOne (source (L.known context.now.lists.now)
+        context.now.sets.now.fields shape) place name.now reader.old reader.new) }
     ensures memory { OnOk result (reader.new.is_out_of_memory ≡ false) }
-    ensures stopped { IfErr result (λ fault. StopsOne (source (L.known context.now.lists.now) shape)
-        place name.now reader.old fault reader.new.refused) }
+    ensures stopped { IfErr result (λ fault. StopsOne (source (L.known context.now.lists.now)
+        context.now.sets.now.fields shape) place name.now reader.old fault reader.new.refused) }
 {
     match text_in(name) {
         Some(text) => read_text(text, place, reader),
         None => read_file(context, shape, name, place, reader),
+    }
+}
+
+// Returns the strings that are taken of JSON documents, if lists of this format are such documents.
+fn strings_in(shape: Shape, fields: &[String]) -> Option<Strings<'_>>
+    ensures { result ≡ strings_in shape (map string_bytes fields.now) }
+{
+    match shape {
+        Shape::Lines(_) => None,
+        Shape::Json => Some(Strings::LookingLikeEntries),
+        Shape::StrictJson => Some(Strings::All),
+        Shape::Fields | Shape::StrictFields => Some(Strings::OfFields(FieldNames::new(fields))),
     }
 }
 
@@ -56,16 +80,15 @@ fn read_file<L: OpenLists>(
     place: usize,
     reader: &mut ListReader,
 ) -> Result<(), ReadFault>
-    ensures read { OnOk result (ReadsBy shape (L.known context.now.lists.now) place
-        name.now reader.old reader.new) }
+    ensures read { OnOk result (ReadsBy (source (L.known context.now.lists.now)
+        context.now.sets.now.fields shape) place name.now reader.old reader.new) }
     ensures memory { OnOk result (reader.new.is_out_of_memory ≡ false) }
-    ensures stopped { IfErr result (λ fault. StopsBy shape (L.known context.now.lists.now)
-        place name.now reader.old fault reader.new.refused) }
+    ensures stopped { IfErr result (λ fault. StopsBy (source (L.known context.now.lists.now)
+        context.now.sets.now.fields shape) place name.now reader.old fault reader.new.refused) }
 {
     let lists = context.lists;
-    match shape {
-        Shape::Lines | Shape::StrictLines => read_named(lists, name, place, reader),
-        Shape::Json => read_document(context.alloc, lists, name, place, false, reader),
-        Shape::StrictJson => read_document(context.alloc, lists, name, place, true, reader),
+    match strings_in(shape, context.sets.field_names()) {
+        None => read_named(lists, name, place, reader),
+        Some(strings) => read_document(context.alloc, lists, name, place, &strings, reader),
     }
 }

@@ -21,6 +21,8 @@ pub enum Task {
     Overlaps,
     /// Entries that have addresses are printed.
     Find,
+    /// Free networks of a pool are printed.
+    Free,
 }
 
 /// The task that a word names.
@@ -38,6 +40,7 @@ pub(crate) fn task_called(text: &str) -> Option<Task>
         "check" => Some(Task::Check),
         "overlaps" => Some(Task::Overlaps),
         "find" => Some(Task::Find),
+        "free" => Some(Task::Free),
         _ => None,
     }
 }
@@ -48,7 +51,7 @@ pub(crate) fn is_two_sided(task: Task) -> bool
 {
     match task {
         Task::Merge(operation) => !matches!(operation, Operation::Union),
-        Task::Find => true,
+        Task::Find | Task::Free => true,
         Task::List | Task::Split | Task::Reduce | Task::Check | Task::Overlaps => false,
     }
 }
@@ -62,11 +65,13 @@ pub(crate) fn no_option(task: Task) -> &'static str {
         Task::Merge(_) | Task::List => {
             "not an option of union, common, minus or list; they take -e TEXT, --ranges, --count, \
              --format FORM, --set NAME, --table NAME, --maxelem N, --line-prefix TEXT, \
-             --line-suffix TEXT, --allow-empty, --at-least N, --skip-bad, --json and --strict"
+             --line-suffix TEXT, --allow-empty, --at-least N, --skip-bad, --json, \
+             --json-field NAME, --strict, --whole and --masks"
         }
         Task::Split => {
             "not an option of split; it takes -e TEXT, --prefix N, --line-prefix TEXT, \
-             --line-suffix TEXT, --at-least N, --skip-bad, --json and --strict"
+             --line-suffix TEXT, --at-least N, --skip-bad, --json, --json-field NAME, --strict, \
+             --whole and --masks"
         }
         Task::Reduce => {
             "not an option of reduce; it takes --most N, --ipv4 N, --ipv6 N, --max-others N and \
@@ -75,6 +80,11 @@ pub(crate) fn no_option(task: Task) -> &'static str {
         Task::Check => "not an option of check; it takes -e TEXT and --strict",
         Task::Overlaps => "not an option of overlaps; it takes -e TEXT",
         Task::Find => "not an option of find; it takes -e TEXT and --from FILE",
+        Task::Free => {
+            "not an option of free; it takes -e TEXT, --prefix N, --all, --line-prefix TEXT, \
+             --line-suffix TEXT, --allow-empty, --skip-bad, --json, --json-field NAME, --strict, \
+             --whole and --masks"
+        }
     }
 }
 
@@ -88,4 +98,4 @@ pub(crate) fn no_first(task: Task) -> &'static str {
 }
 
 /// The message for a `--` of a task with one side.
-pub(crate) const ONE_SIDE: &str = "only common, minus, differ and find take a --";
+pub(crate) const ONE_SIDE: &str = "only common, minus, differ, find and free take a --";

@@ -22,6 +22,7 @@ with_dash address text dash (Err faults.Prefix) fault = absurd fault
 with_dash address text dash (Err (faults.Encoding encoding)) fault = absurd fault
 with_dash address text dash (Err faults.Second) fault = absurd fault
 with_dash address text dash (Err faults.HostBits) fault = absurd fault
+with_dash address text dash (Err faults.Mask) fault = absurd fault
 with_dash address text dash (Err faults.Address) fault = (inr (dash, fault), none)
   where
     none : (entry : Entry) → ¬ (NamesEntry text entry)
@@ -60,6 +61,7 @@ without_dash text dashless (Err faults.Range) (cause, none) = absurd cause
 without_dash text dashless (Err (faults.Encoding encoding)) (cause, none) = absurd cause
 without_dash text dashless (Err faults.Second) (cause, none) = absurd cause
 without_dash text dashless (Err faults.HostBits) (cause, none) = absurd cause
+without_dash text dashless (Err faults.Mask) (cause, none) = absurd cause
 
 pub network_read : (text : List ℕ) → IsAbsent 45 text 0 (length text) → (result : Result Entry EntryFault)
     → ReadsNetworkText text result → ReadsPlain text result

@@ -4,7 +4,7 @@ use Rattle.std.specs.Prelude.{Bool}
 
 -- ---- lists of lines
 
-lines_nothing : lines [] ≡ []
+pub lines_nothing : lines [] ≡ []
 unfolding last_line
 lines_nothing = lines_last [] tt
 
@@ -169,7 +169,7 @@ goes_on left between rest old mid new start before after room less count s chunk
       takes = takes_both start before after s.taken some.taken s.takes some.takes;
     }
 
-whole_input : (left rest : Option (List ℕ)) (input read : List ℕ) → left ≡ Some input → Consumes left rest read
+pub whole_input : (left rest : Option (List ℕ)) (input read : List ℕ) → left ≡ Some input → Consumes left rest read
     → IsAtEnd rest → input ≡ read
 whole_input None rest input read e consumed at_end = absurd (let q = e in cc)
 whole_input (Some text) None input read e consumed at_end = absurd consumed

@@ -1,12 +1,16 @@
 pub mod CommentExamples
 pub mod DocumentExamples
 pub mod Documents
+pub mod Ends
 pub mod EntryExamples
+pub mod FieldExamples
 pub mod FirstLines
 pub mod Gained
 pub mod Handed
+pub mod JsonTexts
 pub mod Known
 pub mod LooksExamples
+pub mod MaskExamples
 pub mod NamedLists
 pub mod PartExamples
 pub mod Dashes
@@ -17,5 +21,6 @@ pub mod Readings
 pub mod Taken
 pub mod RulesExamples
 pub mod Trims
+pub mod TwoWords
 pub mod WholeLists
 pub mod Words

@@ -1,6 +1,7 @@
 -- A list that is read.
-use Rattle.lists.proofs.Words.{◌≡◌, ◌<◌, ◌-◌, ◌^◌, [], ℕ, List, Bool, true, false, inl, inr, refl, sym, ap, subst, arith, length, append-nil, length-append, Option, None, Some, Result, Ok, Err, OnOk, IfErr, Consumes, lines, ended_by_read, RunFault, ReadLists, at_list, TakesLines, TakesBefore, KnownLists, end_of, ReadsFirst, FailsReading, StopsAt, ReadFault}
+use Rattle.lists.proofs.Words.{◌≡◌, ◌<◌, ◌-◌, ◌^◌, [], ℕ, List, Bool, true, false, inl, inr, refl, sym, ap, subst, arith, length, append-nil, length-append, Option, None, Some, Result, Ok, Err, OnOk, IfErr, Consumes, lines, RunFault, ReadLists, at_list, TakesLines, TakesBefore, KnownLists, EndsWithFeed, IsCut, ListFault, StopsList, end_of, fails_reading, ReadsFirst, ReadsList, FailsReading, StopsAt, ReadFault}
 use Rattle.lines.specs.declared.fault.RunFault.TheVariants as faults
+use Rattle.lists.specs.declared.read.ListFault.TheVariants.{Run, Cut}
 use Rattle.lists.proofs.FirstLines.{first_taken, first_taken_of_too_many}
 
 -- more bytes were read of a list than 64 bits count, so it has more
@@ -37,26 +38,57 @@ module _ (known : KnownLists) (number : ℕ) (name : List ℕ) (before after : R
   too_many h = inr (λ input e. many_read input h.0 rest
       (subst (λ (l : Option (List ℕ)). Consumes l rest h.0) (has input e) h.2) h.3)
 
+  all_of_cut : IsCut left (at_list before number) after → ReadsFirst known number name before after
+  all_of_cut cut = all_of (λ input e. (cut.1 input e).1)
+
   -- how the reading of the list ended, if it stopped
-  one_stopped : (read : Result (Unit {0}) RunFault) (out : Bool) → (ended_by_read read ≡ true → known.may_fail name)
+  one_stopped : (read : Result (Unit {0}) ListFault) (out : Bool) → (fails_reading read ≡ true → known.may_fail name)
       → OnOk read ((input : List ℕ) → left ≡ Some input → TakesLines (at_list before number) (lines input) after)
-      → IfErr read (λ fault. TakesBefore left rest fault (at_list before number) after) → out ≡ after.is_out_of_memory
+      → IfErr read (λ fault. StopsList left rest fault (at_list before number) after) → out ≡ after.is_out_of_memory
       → IfErr (end_of read number out) (λ fault. StopsAt known number name before fault after.refused)
   one_stopped (Ok done) false fails taken stopped e = tt
   one_stopped (Ok done) true fails taken stopped e = (after, all_of taken, sym e, refl)
-  one_stopped (Err faults.Read) false fails taken stopped e =
+  one_stopped (Err (Run faults.Read)) false fails taken stopped e =
       (refl, inl (fails refl), after, first_of stopped, sym e, refl)
-  one_stopped (Err faults.Read) true fails taken stopped e = (after, first_of stopped, sym e, refl)
-  one_stopped (Err faults.InputTooLong) false fails taken stopped e =
+  one_stopped (Err (Run faults.Read)) true fails taken stopped e = (after, first_of stopped, sym e, refl)
+  one_stopped (Err (Run faults.InputTooLong)) false fails taken stopped e =
       (refl, too_many stopped, after, first_of_too_many stopped, sym e, refl)
-  one_stopped (Err faults.InputTooLong) true fails taken stopped e = (after, first_of_too_many stopped, sym e, refl)
-  one_stopped (Err faults.Write) out fails taken stopped e = absurd stopped
+  one_stopped (Err (Run faults.InputTooLong)) true fails taken stopped e =
+      (after, first_of_too_many stopped, sym e, refl)
+  one_stopped (Err (Run faults.Write)) out fails taken stopped e = absurd stopped
+  one_stopped (Err Cut) false fails taken stopped e =
+      (refl, opened, stopped.0, λ input f. (stopped.1 input (has input f)).0, after, all_of_cut stopped, sym e, refl)
+  one_stopped (Err Cut) true fails taken stopped e = (after, all_of_cut stopped, sym e, refl)
 
-  pub read_stopped : (read : Result (Unit {0}) RunFault) (out : Bool) (result : Result (Unit {0}) ReadFault)
-      → result ≡ end_of read number out → (ended_by_read read ≡ true → known.may_fail name)
+  pub read_stopped : (read : Result (Unit {0}) ListFault) (out : Bool) (result : Result (Unit {0}) ReadFault)
+      → result ≡ end_of read number out → (fails_reading read ≡ true → known.may_fail name)
       → OnOk read ((input : List ℕ) → left ≡ Some input → TakesLines (at_list before number) (lines input) after)
-      → IfErr read (λ fault. TakesBefore left rest fault (at_list before number) after) → out ≡ after.is_out_of_memory
+      → IfErr read (λ fault. StopsList left rest fault (at_list before number) after) → out ≡ after.is_out_of_memory
       → IfErr result (λ fault. StopsAt known number name before fault after.refused)
   read_stopped read out result ends fails taken stopped e =
       subst (λ (r : Result (Unit {0}) ReadFault). IfErr r (λ fault. StopsAt known number name before fault
       after.refused)) (sym ends) (one_stopped read out fails taken stopped e)
+
+  -- how it ended, if it was read to its end
+  one_read : (read : Result (Unit {0}) ListFault) (out : Bool)
+      → OnOk read ((input : List ℕ) → left ≡ Some input → TakesLines (at_list before number) (lines input) after)
+      → OnOk read (before.rules.is_whole ≡ true → after.is_out_of_memory ≡ false → (input : List ℕ)
+      → left ≡ Some input → EndsWithFeed input) → out ≡ after.is_out_of_memory
+      → OnOk (end_of read number out) (ReadsList known number name before after)
+  one_read (Ok done) false taken whole e =
+      (opened, λ input f. taken input (has input f), λ wants input f. whole wants (sym e) input (has input f))
+  one_read (Ok done) true taken whole e = tt
+  one_read (Err (Run fault)) false taken whole e = tt
+  one_read (Err (Run fault)) true taken whole e = tt
+  one_read (Err Cut) false taken whole e = tt
+  one_read (Err Cut) true taken whole e = tt
+
+  pub read_whole : (read : Result (Unit {0}) ListFault) (out : Bool) (result : Result (Unit {0}) ReadFault)
+      → result ≡ end_of read number out
+      → OnOk read ((input : List ℕ) → left ≡ Some input → TakesLines (at_list before number) (lines input) after)
+      → OnOk read (before.rules.is_whole ≡ true → after.is_out_of_memory ≡ false → (input : List ℕ)
+      → left ≡ Some input → EndsWithFeed input) → out ≡ after.is_out_of_memory
+      → OnOk result (ReadsList known number name before after)
+  read_whole read out result ends taken whole e =
+      subst (λ (r : Result (Unit {0}) ReadFault). OnOk r (ReadsList known number name before after)) (sym ends)
+      (one_read read out taken whole e)

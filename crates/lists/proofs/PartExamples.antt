@@ -1,5 +1,5 @@
 -- What the definitions promise, part by part, and values at which a misreading of them would show.
-use Rattle.lists.proofs.Words.{◌≡◌, ◌↔◌, ◌⊎◌, ◌≤◌, ◌<◌, ◌+◌, ◌-◌, ◌^◌, ◌++◌, ℕ, List, [], ◌∷◌, true, false, min, length, refl, subst, MatchBool, refuses, Option, None, Some, Result, Ok, Err, Consumes, lines, IpAddr, V4, V6, InUnion, complete_part, IsBeginning, ReadsEntry, Entry, EntryFault, AddsEntry, ReadLists, at_next_line, refusing, HasAddress, Names, Gains, RunsOut, TakesEntry, TakesReading, TakesLine, Takes, TakesLines, Refused, with_refusal, TakesBefore, LineFault, Refusal}
+use Rattle.lists.proofs.Words.{◌≡◌, ◌↔◌, ◌⊎◌, ◌≤◌, ◌<◌, ◌+◌, ◌-◌, ◌^◌, ◌++◌, ℕ, List, [], ◌∷◌, true, false, min, length, refl, subst, MatchBool, refuses, Option, None, Some, Result, Ok, Err, Consumes, lines, IpAddr, V4, V6, InUnion, complete_part, IsBeginning, ReadsEntryBy, Entry, EntryFault, AddsEntry, ReadLists, at_next_line, refusing, HasAddress, Names, Gains, RunsOut, TakesEntry, TakesReading, TakesLine, Takes, TakesLines, Refused, with_refusal, TakesBefore, LineFault, Refusal}
 use Rattle.lines.specs.declared.fault.RunFault.TheVariants as runs
 use Rattle.lists.specs.declared.entry.Entry.TheVariants as entries
 use Rattle.lists.specs.declared.entry.EntryFault.TheVariants.{HostBits}
@@ -44,7 +44,7 @@ pub a_line_that_is_too_long : (before after : ReadLists) → TakesLine before No
 a_line_that_is_too_long before after h = h
 
 pub what_is_taken_of_a_line : (before after : ReadLists) (line : List ℕ) → TakesLine before (Some line) after
-    → (reading : Result (Option Entry) EntryFault) × ReadsEntry line reading
+    → (reading : Result (Option Entry) EntryFault) × ReadsEntryBy before.rules line reading
     × TakesReading (at_next_line before) reading after
 what_is_taken_of_a_line before after line h = h
 

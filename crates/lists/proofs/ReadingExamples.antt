@@ -1,5 +1,5 @@
 -- What the definitions of reading promise, part by part: a definition without one of these parts would not give it.
-use Rattle.lists.proofs.Words.{◌≡◌, ◌++◌, ◌-◌, ◌^◌, ◌<◌, ◌⊎◌, ℕ, List, true, false, length, refl, None, Some, lines, KnownLists, nothing_known, ReadLists, at_list, TakesLines, ReadsList, ReadsFirst, FailsReading, StopsAt, Refused, OutOfMemory}
+use Rattle.lists.proofs.Words.{◌≡◌, ◌++◌, ◌-◌, ◌^◌, ◌<◌, ◌⊎◌, ℕ, List, true, false, length, refl, None, Some, lines, KnownLists, nothing_known, ReadLists, at_list, TakesLines, ReadsList, ReadsFirst, FailsReading, StopsAt, EndsWithFeed, Refused, Cut, OutOfMemory}
 use Rattle.lists.specs.declared.named.ReadFault.TheVariants.{Read}
 
 pub no_bytes_are_known : (name : List ℕ) → nothing_known.bytes_of name ≡ None
@@ -8,6 +8,15 @@ no_bytes_are_known name = refl
 pub what_is_read : (known : KnownLists) (number : ℕ) (name input : List ℕ) (before after : ReadLists) → ReadsList known
     number name before after → known.bytes_of name ≡ Some input → TakesLines (at_list before number) (lines input) after
 what_is_read known number name input before after h e = h.1 input e
+
+pub what_is_whole : (known : KnownLists) (number : ℕ) (name input : List ℕ) (before after : ReadLists) → ReadsList known
+    number name before after → before.rules.is_whole ≡ true → known.bytes_of name ≡ Some input → EndsWithFeed input
+what_is_whole known number name input before after h wanted e = h.2 wanted input e
+
+pub what_is_cut : (known : KnownLists) (number place : ℕ) (name input : List ℕ) (before : ReadLists) (refused : Refused)
+    → StopsAt known number name before (Cut place) refused → known.bytes_of name ≡ Some input
+    → (place ≡ number) × (before.rules.is_whole ≡ true) × ¬ (EndsWithFeed input)
+what_is_cut known number place name input before refused h e = (h.0, h.2, h.3 input e)
 
 pub what_is_read_first : (known : KnownLists) (number : ℕ) (name input : List ℕ) (before after : ReadLists)
     → ReadsFirst known number name before after → known.bytes_of name ≡ Some input

@@ -1,5 +1,5 @@
 -- Networks with host bits and without. Each of these computes.
-use Rattle.lists.proofs.Words.{◌≡◌, ◌∷◌, [], map, true, false, refl, V4, V6, Range, has_host_bits, refuses}
+use Rattle.lists.proofs.Words.{◌≡◌, ◌∷◌, [], map, true, false, refl, V4, V6, Range, has_host_bits, lenient, refuses}
 use Rattle.ipnetwork.specs.declared.ip_network.IpNetwork.TheVariants as networks
 use Rattle.lists.specs.declared.entry.Entry.TheVariants.{Network}
 
@@ -13,6 +13,6 @@ pub no_host_bits : map has_host_bits (Network (networks.V4 (record { address = 0
     ∷ Range (V4 1) (V4 2) ∷ []) ≡ false ∷ false ∷ false ∷ false ∷ []
 no_host_bits = refl
 
-pub only_if_asked : refuses (record { refuses_host_bits = false }) (Network (networks.V4 (record { address = 1; prefix = 0 })))
+pub only_if_asked : refuses lenient (Network (networks.V4 (record { address = 1; prefix = 0 })))
     ≡ false
 only_if_asked = refl

@@ -23,9 +23,9 @@ pub use Rattle.ipnetwork_family.specs.PrefixNumber.{IsPrefixNumber}
 pub use Rattle.lines.proofs.FirstLines.{are_all, first_still, next_first}
 pub use Rattle.lines.proofs.HandingOut.{has_no}
 unfoldable pub use Rattle.lines.proofs.Lines.{last_line}
-pub use Rattle.lines.proofs.Lines.{first_are_complete, lines-append, lines_complete, lines_from, lines_last, lines_split, pending_from}
+unfoldable pub use Rattle.lines.proofs.Lines.{lines_from, pending_from}
+pub use Rattle.lines.proofs.Lines.{first_are_complete, lines-append, lines_complete, lines_last, lines_split, newline_cases, pending-append, pending_other}
 pub use Rattle.lines.proofs.Writes.{still_works}
-pub use Rattle.lines.specs.Faults.{ended_by_read}
 pub use Rattle.lines.specs.LineBuffers.{AreFirst, Buffered, Gives, HasNoFeed, IsFirstLine, IsPending, waits, work}
 pub use Rattle.lines.specs.Beginnings.{IsBeginning, asked, complete_part}
 pub use Rattle.lines.specs.Watched.{device_of, has_failed}
@@ -33,27 +33,35 @@ pub use Rattle.lines.specs.declared.fault.RunFault.{RunFault}
 pub use Rattle.lines.specs.declared.fault.RunFault.TheVariants.{InputTooLong, Read}
 pub use Rattle.lines.specs.declared.line_buffer.NextLine.TheVariants.{Ask, End, Line, TooLong}
 pub use Rattle.lines.specs.declared.line_end.LineEnd.{LineEnd}
+pub use Rattle.lines.specs.declared.line_end.LineEnd.TheVariants.{EndOfInput, LineFeed, ReturnAndLineFeed}
 pub use Rattle.lists.specs.Added.{AddsBlocks, AddsEntry}
 pub use Rattle.lists.specs.Bytes.{BytesStop, IsAllOf}
-pub use Rattle.lists.specs.Documents.{IsNoDocument, ReadsDocument, StopsAtDocument, TakesDocument, TakesStrings, strings_of, strings_of_items, strings_of_members}
+pub use Rattle.lists.specs.Documents.{AreNoDocuments, LackFields, ReadsDocument, StopsAtDocument, TakesDocuments, TakesStrings, has_fields, is_strict, strings_by, strings_of, strings_of_all, strings_of_items, strings_of_members}
 pub use Rattle.lists.specs.Encodings.{encoding_of}
 pub use Rattle.lists.specs.Entries.{HasDash, IsEntryCause, IsRange, NamesEntry, NamesNone, ReadsEntry, entry_text, is_dash, told_cause}
+pub use Rattle.lists.specs.Fields.{field_strings_of, has_field, is_named, items_have_field, members_have_field, texts_of_items, texts_of_members, texts_within}
+pub use Rattle.lists.specs.JsonTexts.{document_of_line, documents_of, documents_of_lines, if_any}
 pub use Rattle.lists.specs.KnownLists.{KnownLists, nothing_known}
 pub use Rattle.lists.specs.Laws.{NetworkTextsAreEntries}
 pub use Rattle.lists.specs.Lines.{before_comment, begins_comment, comment_text, is_blank, is_gap, trimmed, without_end, without_front}
 pub use Rattle.lists.specs.Looks.{has_gap, is_address_byte, is_slash, looks_like_address, looks_like_entry}
 pub use Rattle.lists.specs.Lists.{Gains, HasAddress, Names, ReadLists, RunsOut, Takes, TakesAllowed, TakesEntry, TakesLine, TakesLines, TakesReading, at_list, at_next_line, refusing}
+pub use Rattle.lists.specs.Masks.{IsBoth, IsMask, IsUnclear, IsWildcard, NamesMasked, ReadsEntryBy, SaysLength, SaysNone, SaysSome, after_word, first_word}
 pub use Rattle.lists.specs.Private.Bytes.{ReadsAll, ReadsMore, StopsReading}
 pub use Rattle.lists.specs.Private.Documents.{FailsBytes, TakesBytes, not_read}
+pub use Rattle.lists.specs.Private.JsonTexts.{FailsDocuments, FailsLine, FailsLines, are_documents_of_lines, documents_in}
 pub use Rattle.lists.specs.Private.Kinds.{ReadsNetworkText, ReadsPlain, ReadsRange}
+pub use Rattle.lists.specs.Private.Masked.{GivesLength, GivesOneLength, IsNotMasked}
 pub use Rattle.lists.specs.Private.Readings.{end_of}
 pub use Rattle.lists.specs.Private.Taking.{IsGoodEntry}
-pub use Rattle.lists.specs.Private.Waiting.{HasNoLine, TakesSome, TakesWhole}
+pub use Rattle.lists.specs.Private.Waiting.{HasNoLine, TakesSome, TakesWhole, TellsEnd, TellsNone}
 pub use Rattle.lists.specs.Reading.{FailsReading, ReadsFirst, ReadsList, StopsAt}
 pub use Rattle.lists.specs.Refusals.{Refused, with_refusal}
-pub use Rattle.lists.specs.Rules.{has_host_bits, refuses}
-pub use Rattle.lists.specs.Stopped.{TakesBefore}
+pub use Rattle.lists.specs.Rules.{has_host_bits, lenient, refuses}
+pub use Rattle.lists.specs.Stopped.{EndsWithFeed, IsCut, StopsList, TakesBefore, fails_reading}
 pub use Rattle.lists.specs.declared.bytes.BytesFault.{BytesFault}
+pub use Rattle.lists.specs.declared.chosen.Strings.{Strings}
+pub use Rattle.lists.specs.declared.chosen.Strings.TheVariants.{LookingLikeEntries, All, OfFields}
 pub use Rattle.lists.specs.declared.encoding.Encoding.{Encoding}
 pub use Rattle.lists.specs.declared.encoding.Encoding.TheVariants.{ByteOrderMark, Gzip, Nul, Utf16}
 pub use Rattle.lists.specs.declared.entry.Entry.{Entry}
@@ -61,7 +69,8 @@ pub use Rattle.lists.specs.declared.entry.Entry.TheVariants.{Range}
 pub use Rattle.lists.specs.declared.entry.EntryFault.{EntryFault}
 pub use Rattle.lists.specs.declared.fault.LineFault.{LineFault}
 pub use Rattle.lists.specs.declared.named.ReadFault.{ReadFault}
-pub use Rattle.lists.specs.declared.named.ReadFault.TheVariants.{Length, NotJson, Open, OutOfMemory}
+pub use Rattle.lists.specs.declared.named.ReadFault.TheVariants.{Cut, Length, NotJson, Open, OutOfMemory, NoField}
+pub use Rattle.lists.specs.declared.read.ListFault.{ListFault}
 pub use Rattle.lists.specs.declared.refusals.Refusal.{Refusal}
 unfoldable pub use Rattle.serde_json.proofs.OnLiterals.{serde_json_on_literals}
 pub use Rattle.serde_json.specs.Data.{Data, array, boolean, item, member, no_items, no_members, null, number, object, string, unsigned}
@@ -73,14 +82,17 @@ pub use Rattle.std.proofs.KnownBytes.{Consumes-kept, Consumes-trans}
 pub use Rattle.std.proofs.lemmas.Bool.{eq-eqb, ltb-false, ltb-true, ne_eqb}
 pub use Rattle.std.proofs.lemmas.Iterator.Consumers.{YieldsList-end}
 pub use Rattle.std.proofs.lemmas.Iterator.Splits.{YieldsList-from_lines}
-pub use Rattle.std.proofs.lemmas.List.{drop_all, drop_more, take_all}
+pub use Rattle.std.proofs.lemmas.List.{drop_all, drop_more, length-map, map_push, take-append-drop, take_all}
 pub use Rattle.std.proofs.lemmas.List.Sums.{position_or_len_is, suffix_len_is}
+pub use Rattle.std.proofs.Math.Pow.{pow_mono}
+pub use Rattle.std.proofs.lemmas.Nat.{pow_pos}
 pub use Rattle.std.proofs.lemmas.Option.{none-some}
 pub use Rattle.std.proofs.lemmas.Str.Parse.{digit_from_value}
 unfoldable pub use Rattle.std.specs.Fmt.{digits}
 pub use Rattle.std.specs.Char.{is_ascii_digit}
 pub use Rattle.std.specs.Io.KnownBytes.{Consumes, IsAtEnd, Keeps}
-pub use Rattle.std.specs.List.{AllByRecursion, Contains, after_first, before_first, list_all, position_or_len, prefix_len, range_with_len, suffix_len}
-pub use Rattle.std.specs.Prelude.{Err, IfErr, IfOk, IsTrue, MatchBool, None, Ok, OnOk, Option, Result, Some, bytes_eq, codes, filter, is_err, map, nat_lt}
+pub use Rattle.std.specs.List.{AllByRecursion, Contains, after_first, before_first, list_all, list_any, position_or_len, prefix_len, range_with_len, suffix_len}
+pub use Rattle.std.specs.Prelude.{Err, IfErr, IfOk, IsTrue, MatchBool, None, Ok, OnOk, Option, Result, Some, bytes_eq, codes, filter, if◌then◌else◌, is_err, is_ok, map, nat_lt, option_and_then, option_map}
 pub use Rattle.std.specs.Str.Lines.{lines}
+pub use Rattle.std.specs.String.{string_bytes}
 pub use Rattle.std.specs.Str.Parse.{AllDigits}

@@ -4,19 +4,23 @@ use Rattle.std.specs.Prelude.{Option, None, Some, if◌then◌else◌}
 use Rattle.std.specs.Prelude.{Result, Ok, Err}
 use Rattle.serde_json.specs.Data.{Data, null, boolean, number, string, array, object, Items, no_items, item, Members}
 use Rattle.serde_json.specs.Data.{no_members, member}
-use Rattle.serde_json.specs.Read.{read}
+use Rattle.std.specs.List.{list_any}
 use Rattle.lines.specs.Beginnings.{asked}
 use Rattle.lists.specs.Encodings.{encoding_of}
 use Rattle.lists.specs.Entries.{ReadsText}
+use Rattle.lists.specs.Fields.{field_strings_of, has_field}
+use Rattle.lists.specs.JsonTexts.{documents_of}
 use Rattle.lists.specs.KnownLists.{KnownLists}
 use Rattle.lists.specs.Lists.{ReadLists, at_list, at_next_line, refusing, TakesAllowed}
 use Rattle.lists.specs.Looks.{looks_like_entry}
+use Rattle.lists.specs.declared.chosen.Strings.{Strings}
+use Rattle.lists.specs.declared.chosen.Strings.TheVariants.{LookingLikeEntries, All, OfFields}
 use Rattle.lists.specs.declared.entry.Entry.{Entry}
 use Rattle.lists.specs.declared.entry.EntryFault.{EntryFault}
 use Rattle.lists.specs.declared.fault.LineFault.{LineFault}
 use Rattle.lists.specs.declared.fault.LineFault.TheVariants as faults
 use Rattle.lists.specs.declared.named.ReadFault.{ReadFault}
-use Rattle.lists.specs.declared.named.ReadFault.TheVariants.{Open, Read, Length, NotJson, OutOfMemory}
+use Rattle.lists.specs.declared.named.ReadFault.TheVariants.{Open, Read, Length, NotJson, Cut, OutOfMemory, NoField}
 
 -- the strings of a JSON value, at any depth and in their order: a string itself, those of the elements of an array, and
 -- those of the values of an object, but not its keys
@@ -63,25 +67,53 @@ TakesStrings strict before [] after = after ≡ before
 TakesStrings strict before (text ∷ texts) after = (between : ReadLists) × TakesString strict before text between
     × TakesStrings strict between texts after
 
--- the bytes are this document: there are at most 1,073,741,824, in UTF-8, and they are JSON of at most 127 levels
-abbrev pub IsDocument : List ℕ → Data → Type 0
-IsDocument bytes document = (length bytes ≤ 1073741824) × IsUtf8 bytes × (read bytes ≡ Some document)
+-- the strings of a document that are taken
+abbrev pub strings_by : Strings → Data → List (List ℕ)
+strings_by LookingLikeEntries document = strings_of document
+strings_by All document = strings_of document
+strings_by (OfFields names) document = field_strings_of names document
 
--- there are at most 1,073,741,824 bytes, and they are not UTF-8, or not JSON of at most 127 levels
-abbrev pub IsNoDocument : List ℕ → Type 0
-IsNoDocument bytes = (length bytes ≤ 1073741824) × (IsUtf8 bytes → read bytes ≡ None)
+-- those of documents, one after another
+abbrev pub strings_of_all : Strings → List Data → List (List ℕ)
+strings_of_all strings [] = []
+strings_of_all strings (document ∷ documents) = strings_by strings document ++ strings_of_all strings documents
 
--- the bytes are a document, and its strings are taken, one after another
-abbrev pub TakesDocument : Bool → ReadLists → List ℕ → ReadLists → Type 0
-TakesDocument strict before bytes after = (document : Data) × IsDocument bytes document
-    × TakesStrings strict before (strings_of document) after
+-- each string that is taken has to be an entry, also one that does not look like one
+abbrev pub is_strict : Strings → Bool
+is_strict LookingLikeEntries = false
+is_strict All = true
+is_strict (OfFields names) = true
+
+-- if only fields are taken, a document has one
+abbrev pub has_fields : Strings → List Data → Bool
+has_fields LookingLikeEntries documents = true
+has_fields All documents = true
+has_fields (OfFields names) documents = list_any (has_field names) documents
+
+-- the bytes are these documents: there are at most 1,073,741,824, in UTF-8, and they are JSON, or lines of JSON, of at
+-- most 127 levels
+abbrev pub AreDocuments : List ℕ → List Data → Type 0
+AreDocuments bytes documents = (length bytes ≤ 1073741824) × IsUtf8 bytes × (documents_of bytes ≡ Some documents)
+
+-- there are at most 1,073,741,824 bytes, and they are not UTF-8, or neither JSON nor lines of JSON of at most 127 levels
+abbrev pub AreNoDocuments : List ℕ → Type 0
+AreNoDocuments bytes = (length bytes ≤ 1073741824) × (IsUtf8 bytes → documents_of bytes ≡ None)
+
+-- the bytes are documents, which have fields if only these are taken, and their strings are taken, one after another
+abbrev pub TakesDocuments : Strings → ReadLists → List ℕ → ReadLists → Type 0
+TakesDocuments strings before bytes after = (documents : List Data) × AreDocuments bytes documents
+    × (has_fields strings documents ≡ true) × TakesStrings (is_strict strings) before (strings_of_all strings documents) after
+
+-- the bytes are documents that have none of the fields
+abbrev pub LackFields : Strings → List ℕ → Type 0
+LackFields strings bytes = (documents : List Data) × AreDocuments bytes documents × (has_fields strings documents ≡ false)
 
 -- the document of this name was opened, and, if its bytes are known, its strings are taken; refused strings name it by
 -- the number `list`
-abbrev pub ReadsDocument : KnownLists → Bool → ℕ → List ℕ → ReadLists → ReadLists → Type 0
-ReadsDocument known strict list name before after =
+abbrev pub ReadsDocument : KnownLists → Strings → ℕ → List ℕ → ReadLists → ReadLists → Type 0
+ReadsDocument known strings list name before after =
     known.may_open name true × ((input : List ℕ) → known.bytes_of name ≡ Some input
-    → TakesDocument strict (at_list before list) input after)
+    → TakesDocuments strings (at_list before list) input after)
 
 -- the document of this name was opened, and, if its bytes are known, there is at least one, for which there was no
 -- memory
@@ -91,24 +123,30 @@ LacksMemory known name = known.may_open name true
 
 -- the reading stops at the document of this name and number for this reason, and leaves the reader as `after`, which is
 -- unchanged unless memory ran out for an entry
-abbrev pub StopsAtDocument : KnownLists → Bool → ℕ → List ℕ → ReadLists → ReadFault → ReadLists → Type 0
+abbrev pub StopsAtDocument : KnownLists → Strings → ℕ → List ℕ → ReadLists → ReadFault → ReadLists → Type 0
 -- the document was not opened, for this cause
-StopsAtDocument known strict list name before (Open place cause) after = (place ≡ list) × known.may_open name false
+StopsAtDocument known strings list name before (Open place cause) after = (place ≡ list) × known.may_open name false
     × known.may_miss name cause × (after ≡ before)
 -- a read of the document failed
-StopsAtDocument known strict list name before (Read place) after = (place ≡ list) × known.may_open name true
+StopsAtDocument known strings list name before (Read place) after = (place ≡ list) × known.may_open name true
     × known.may_fail name × (after ≡ before)
+-- this fault does not occur: a document may have any end
+StopsAtDocument known strings list name before (Cut place) after = ⊥
 -- the document has more than 1,073,741,824 bytes
-StopsAtDocument known strict list name before (Length place) after =
+StopsAtDocument known strings list name before (Length place) after =
     (place ≡ list) × known.may_open name true
     × ((input : List ℕ) → known.bytes_of name ≡ Some input → 1073741824 < length input) × (after ≡ before)
--- the document has at most 1,073,741,824 bytes, and they are not UTF-8, or not JSON of at most 127 levels; the encoding
--- is what they are instead of plain text
-StopsAtDocument known strict list name before (NotJson place line encoding) after =
+-- the document has at most 1,073,741,824 bytes, and they are not UTF-8, or neither JSON nor lines of JSON of at most 127
+-- levels; the encoding is what they are instead of plain text
+StopsAtDocument known strings list name before (NotJson place line encoding) after =
     (place ≡ list) × known.may_open name true
-    × ((input : List ℕ) → known.bytes_of name ≡ Some input → IsNoDocument input × (encoding ≡ encoding_of input))
+    × ((input : List ℕ) → known.bytes_of name ≡ Some input → AreNoDocuments input × (encoding ≡ encoding_of input))
     × (after ≡ before)
+-- only fields are taken, and the document has none of them
+StopsAtDocument known strings list name before (NoField place) after =
+    (place ≡ list) × known.may_open name true
+    × ((input : List ℕ) → known.bytes_of name ≡ Some input → LackFields strings input) × (after ≡ before)
 -- there was no memory for the document, or memory ran out for an entry of it
-StopsAtDocument known strict list name before OutOfMemory after =
+StopsAtDocument known strings list name before OutOfMemory after =
     (LacksMemory known name × (after ≡ before))
-    ⊎ (ReadsDocument known strict list name before after × (after.is_out_of_memory ≡ true))
+    ⊎ (ReadsDocument known strings list name before after × (after.is_out_of_memory ≡ true))

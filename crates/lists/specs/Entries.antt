@@ -59,10 +59,11 @@ IsPlainCause text faults.Prefix = ¬ (HasDash text) × IsIpCause text causes.Pre
 -- both ends of a text with a `-` are addresses, but of two families, or the last is before the first
 IsPlainCause text faults.Range = HasDash text
     × ((first : IpAddr) × (last : IpAddr) × NamesBoth text first last × ¬ (IsRange first last))
--- plain text has no other encoding; a text has no second entry, and its host bits are kept
+-- plain text has no other encoding; a text has no second entry, its host bits are kept, and it has no mask of its own
 IsPlainCause text (faults.Encoding encoding) = ⊥
 IsPlainCause text faults.Second = ⊥
 IsPlainCause text faults.HostBits = ⊥
+IsPlainCause text faults.Mask = ⊥
 
 -- the fault that is reported about a text: its encoding, if it has one, and else the cause
 abbrev pub told_cause : Option Encoding → EntryFault → EntryFault

@@ -2,7 +2,7 @@
 use Rattle.std.specs.Prelude.{ℕ, List, codes}
 use Rattle.lists.specs.Encodings.{encoding_text}
 use Rattle.lists.specs.declared.entry.EntryFault.{EntryFault}
-use Rattle.lists.specs.declared.entry.EntryFault.TheVariants.{Format, Address, Prefix, Range, Encoding, Second, HostBits}
+use Rattle.lists.specs.declared.entry.EntryFault.TheVariants.{Format, Address, Prefix, Range, Encoding, Second, HostBits, Mask}
 use Rattle.lists.specs.declared.fault.LineFault.{LineFault}
 use Rattle.lists.specs.declared.fault.LineFault.TheVariants.{Entry, Length}
 
@@ -15,6 +15,7 @@ entry_fault_text Range = codes "range"
 entry_fault_text (Encoding encoding) = encoding_text encoding
 entry_fault_text Second = codes "second entry"
 entry_fault_text HostBits = codes "host bits"
+entry_fault_text Mask = codes "mask or wildcard"
 
 -- the word for the fault of a line: that of its entry, or `length` if the line is too long
 abbrev pub line_fault_text : LineFault → List ℕ

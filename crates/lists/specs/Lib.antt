@@ -5,11 +5,14 @@ pub mod Documents
 pub mod Encodings
 pub mod Entries
 pub mod Faults
+pub mod Fields
+pub mod JsonTexts
 pub mod KnownLists
 pub mod Laws
 pub mod Lines
 pub mod Lists
 pub mod Looks
+pub mod Masks
 pub mod Opening
 pub mod Private
 pub mod Reading

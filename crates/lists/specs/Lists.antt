@@ -7,7 +7,8 @@ use Rattle.ipnetwork_family.specs.Network.{Network}
 use Rattle.ipnetwork.specs.IpNetworks.{IpMember}
 use Rattle.ipnetwork_blocks.specs.Aggregate.{InUnion}
 use Rattle.lines.specs.Beginnings.{asked}
-use Rattle.lists.specs.Entries.{IsRange, ReadsEntry}
+use Rattle.lists.specs.Entries.{IsRange}
+use Rattle.lists.specs.Masks.{ReadsEntryBy}
 use Rattle.lists.specs.declared.entry.Entry.{Entry}
 use Rattle.lists.specs.declared.entry.Entry.TheVariants as entries
 use Rattle.lists.specs.declared.entry.EntryFault.{EntryFault}
@@ -96,7 +97,7 @@ TakesReading before (Err fault) after = after ≡ refusing before (faults.Entry 
 -- the next line is taken, or, if it is given as too long, refused
 abbrev pub TakesLine : ReadLists → Option (List ℕ) → ReadLists → Type 0
 TakesLine before None after = after ≡ refusing (at_next_line before) faults.Length
-TakesLine before (Some line) after = (reading : Result (Option Entry) EntryFault) × ReadsEntry line reading
+TakesLine before (Some line) after = (reading : Result (Option Entry) EntryFault) × ReadsEntryBy before.rules line reading
     × TakesReading (at_next_line before) reading after
 
 -- the next line is taken, unless memory has run out, after which nothing changes

@@ -1,10 +1,14 @@
--- Which entries are refused though they name addresses.
+-- What lists may say, and which entries are refused though they name addresses.
 use Rattle.std.specs.Prelude.{◌==◌, ◌&&◌, Bool, false, not}
 use Rattle.ipnetwork.specs.declared.ip_network.IpNetwork.TheVariants as networks
 use Rattle.ipnetwork_family.specs.Network.{low}
 use Rattle.lists.specs.declared.entry.Entry.{Entry}
 use Rattle.lists.specs.declared.entry.Entry.TheVariants as entries
 use Rattle.lists.specs.declared.rules.Rules.{Rules}
+
+-- the rules that refuse nothing, and by which an entry has one word
+abbrev pub lenient : Rules
+lenient = record { refuses_host_bits = false; is_whole = false; takes_masks = false }
 
 -- the entry is a network whose address is not the least of its addresses
 abbrev pub has_host_bits : Entry → Bool

@@ -1,11 +1,14 @@
--- What is taken of a list that is not read to its end.
-use Rattle.std.specs.Prelude.{ℕ, ◌-◌, ◌^◌, ◌<◌, List, length, Option}
+-- What is taken of a list that is not read to its end, or that is refused for its end.
+use Rattle.std.specs.Prelude.{◌≡◌, ℕ, ◌-◌, ◌^◌, ◌<◌, Bool, true, false, List, [], ◌∷◌, ◌++◌, length, Option, Some, Result}
+use Rattle.std.specs.Prelude.{Ok, Err}
 use Rattle.std.specs.Io.KnownBytes.{Consumes}
 use Rattle.std.specs.Str.Lines.{lines}
 use Rattle.lines.specs.Beginnings.{complete_part, IsBeginning}
 use Rattle.lines.specs.declared.fault.RunFault.{RunFault}
 use Rattle.lines.specs.declared.fault.RunFault.TheVariants.{Read, Write, InputTooLong}
 use Rattle.lists.specs.Lists.{ReadLists, TakesLines}
+use Rattle.lists.specs.declared.read.ListFault.{ListFault}
+use Rattle.lists.specs.declared.read.ListFault.TheVariants as faults
 
 -- the lines that these bytes complete are taken, and no others
 abbrev pub TakesComplete : List ℕ → ReadLists → ReadLists → Type 0
@@ -22,3 +25,25 @@ TakesBefore remained remains InputTooLong before after =
     × IsBeginning first read × TakesComplete first before after
 -- this fault does not occur: the lines get no replies, so that nothing is written
 TakesBefore remained remains Write before after = ⊥
+
+-- the last byte is a line feed (10), so that no line was cut; no bytes do not end with one
+abbrev pub EndsWithFeed : List ℕ → Type 0
+EndsWithFeed bytes = (before : List ℕ) × (bytes ≡ before ++ 10 ∷ [])
+
+-- a whole list is wanted, and this one, whose lines were all taken, does not end with a line feed
+abbrev pub IsCut : Option (List ℕ) → ReadLists → ReadLists → Type 0
+IsCut remained before after = (before.rules.is_whole ≡ true) × ((input : List ℕ) → remained ≡ Some input
+    → ¬ (EndsWithFeed input) × TakesLines before (lines input) after)
+
+-- what is taken of a list before this fault, with which the reading ends
+abbrev pub StopsList : Option (List ℕ) → Option (List ℕ) → ListFault → ReadLists → ReadLists → Type 0
+StopsList remained remains (faults.Run fault) before after = TakesBefore remained remains fault before after
+StopsList remained remains faults.Cut before after = IsCut remained before after
+
+-- whether a failed read ended the reading of a list
+abbrev pub fails_reading : Result (Unit {0}) ListFault → Bool
+fails_reading (Ok done) = false
+fails_reading (Err (faults.Run Read)) = true
+fails_reading (Err (faults.Run Write)) = false
+fails_reading (Err (faults.Run InputTooLong)) = false
+fails_reading (Err faults.Cut) = false

@@ -6,7 +6,11 @@ use crate::cutting::before;
 use crate::trimming::{Blank, ByteKind, front_len, trim};
 
 /// Returns what stands before the first `#` or `;` of a line, or the whole line if it has neither.
-pub(crate) fn without_comment(line: &[u8]) -> &[u8]
+///
+/// ```
+/// assert_eq!(rt; lists::without_comment(b"10.0.0.0/8 # private"), b"10.0.0.0/8 ".as_slice());
+/// ```
+pub fn without_comment(line: &[u8]) -> &[u8]
     ensures { result.now ≡ before_comment line.now }
 {
     before(before(line, b'#'), b';')

@@ -7,9 +7,10 @@ ghost use Rattle.lists.specs.Documents.{passing, TakesString, TakesText};
 ghost use Rattle.lists.specs.Added.{AddsNetwork, AddsRange, AddsEntry};
 ghost use Rattle.lists.specs.Private.Taking.{IsGoodEntry};
 
-use crate::entry::{Entry, EntryFault, read_entry, read_text};
+use crate::entry::{Entry, EntryFault, read_text};
 use crate::fault::LineFault;
 use crate::looks::looks_like_entry;
+use crate::masks::read_entry_by;
 use crate::networks::Networks;
 use crate::read::LINE_MAX;
 use crate::refusals::{Refusal, Refusals};
@@ -125,6 +126,13 @@ impl ListReader {
         (self.v4.into_vec(), self.v6.into_vec(), self.refusals)
     }
 
+    /// Whether the rules say that lists end with a line feed.
+    pub(crate) fn wants_whole_lists(&self) -> bool
+        ensures { result ≡ self.now.rules.is_whole }
+    {
+        self.rules.is_whole
+    }
+
     /// Takes a line of at most 1,024 bytes, unless memory has run out.
     pub(crate) fn take_line(&mut self, line: &[u8])
         ensures { Takes self.old (Some line.now) self.new }
@@ -133,7 +141,7 @@ impl ListReader {
             return;
         }
         self.next_line();
-        match read_entry(line) {
+        match read_entry_by(self.rules, line) {
             Ok(None) => {}
             Ok(Some(entry)) => self.take_allowed(entry, line),
             Err(fault) => self.refuse(LineFault::Entry(fault), line),

@@ -9,8 +9,7 @@ use crate::encoding::Encoding;
 use crate::list_reader::ListReader;
 use crate::open_lists::OpenLists;
 use crate::opening::{OpenFault, open_list};
-use crate::read::{read_list, take_text};
-use lines::fault::RunFault;
+use crate::read::{ListFault, read_list, take_text};
 
 /// Why lists were not read to the end.
 ///
@@ -26,9 +25,15 @@ pub enum ReadFault {
     Read(usize),
     /// The document that the word at this index names has more than 1,073,741,824 bytes.
     Length(usize),
-    /// The document that the word at this index names is not JSON or has more than 127 levels: the
-    /// index of the word, the line, and what the document is if it is not plain text.
+    /// The document that the word at this index names is neither JSON nor lines of JSON, or has more
+    /// than 127 levels: the index of the word, the line, and what the document is if it is not plain
+    /// text.
     NotJson(usize, u64, Option<Encoding>),
+    /// The list that the word at this index names does not end with a line feed, so that it may have
+    /// been cut, and such lists are refused (`Rules`).
+    Cut(usize),
+    /// No member of the document that the word at this index names has one of the names of fields.
+    NoField(usize),
     /// Memory ran out.
     OutOfMemory,
 }
@@ -37,8 +42,8 @@ pub enum ReadFault {
 /// closes it.
 ///
 /// An error is returned if the list cannot be opened, a read fails, the list has more than
-/// 18,446,744,073,709,551,615 bytes, or memory runs out. Even then the refused lines are added to
-/// the earlier ones.
+/// 18,446,744,073,709,551,615 bytes, memory runs out, or the rules say that lists end with a line
+/// feed and this one does not. Even then the refused lines are added to the earlier ones.
 ///
 /// ```
 /// use lists::{OpenFault, ReadFault, read_named};
@@ -94,7 +99,11 @@ pub fn read_text(text: &str, place: usize, reader: &mut ListReader) -> Result<()
 
 // Returns the result of reading the list at this index, by how its lines were taken and whether
 // memory ran out.
-fn end_of(read: Result<(), RunFault>, place: usize, is_out_of_memory: bool) -> Result<(), ReadFault>
+fn end_of(
+    read: Result<(), ListFault>,
+    place: usize,
+    is_out_of_memory: bool,
+) -> Result<(), ReadFault>
     ensures { result ≡ end_of read place is_out_of_memory }
 {
     if is_out_of_memory {
@@ -102,6 +111,7 @@ fn end_of(read: Result<(), RunFault>, place: usize, is_out_of_memory: bool) -> R
     }
     match read {
         Ok(()) => Ok(()),
+        Err(ListFault::Cut) => Err(ReadFault::Cut(place)),
         Err(_) => Err(ReadFault::Read(place)),
     }
 }

@@ -1,14 +1,14 @@
-//! Which entries are refused though they name addresses.
-ghost use Rattle.std.specs.Prelude.{◌≡◌, false};
-ghost use Rattle.lists.specs.Rules.{has_host_bits, refuses};
+//! What lists may say, and how.
+ghost use Rattle.std.specs.Prelude.{◌≡◌};
+ghost use Rattle.lists.specs.Rules.{has_host_bits, lenient, refuses};
 
 use crate::entry::Entry;
 use ipnetwork::IpNetwork;
 
-/// Which entries are refused though they name addresses.
+/// What lists may say, and how.
 ///
 /// ```
-/// let rules = Rules { refuses_host_bits: true };
+/// let rules = Rules { refuses_host_bits: true, ..Rules::lenient() };
 /// let mut lists = ListReader::new(rt.alloc(), rules, Refusals::new());
 /// read_list(&mut lists, 1, &mut lines::watched::Watched::new(b"10.0.0.5/8".as_slice()))?;
 /// let fault = LineFault::Entry(EntryFault::HostBits);
@@ -18,19 +18,30 @@ use ipnetwork::IpNetwork;
 pub struct Rules {
     /// Whether networks with host bits are refused: `10.0.0.5/8`.
     pub refuses_host_bits: bool,
+    /// Whether a list is refused whose last byte is not a line feed, as it may have been cut. A
+    /// list without any byte is such a list. The rule does not hold for texts (`read_text`) and
+    /// documents.
+    pub is_whole: bool,
+    /// Whether an IPv4 address and its mask or wildcard, as two words, are a network:
+    /// `10.0.0.0 255.0.0.0`, `10.0.0.0 0.255.255.255`. Strings of documents are not read so.
+    pub takes_masks: bool,
 }
 
 impl Rules {
-    /// Returns the rules by which no such entry is refused.
+    /// Returns the rules by which no entry is refused for its host bits, no list for its end, and
+    /// no entry has two words.
     ///
     /// ```
-    /// assert!(rt; !Rules::lenient().refuses_host_bits);
+    /// let rules = Rules::lenient();
+    /// assert!(rt; !rules.refuses_host_bits && !rules.is_whole && !rules.takes_masks);
     /// ```
     pub fn lenient() -> Rules
-        ensures { result.refuses_host_bits ≡ false }
+        ensures { result ≡ lenient }
     {
         Rules {
             refuses_host_bits: false,
+            is_whole: false,
+            takes_masks: false,
         }
     }
 

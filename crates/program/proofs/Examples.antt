@@ -1,8 +1,9 @@
 -- Values at which a misreading of the definitions would show. Each of these computes.
-use Rattle.program.proofs.Words.{◌≡◌, ◌-◌, ◌^◌, ◌<◌, ℕ, List, ◌∷◌, ◌++◌, [], true, false, inl, inr, refl, ap, arith, map, String, None, Some, Ok, Err, if◌then◌else◌, bytes_eq, string_bytes, lines, ReadLists, at_list, TakesLines, Refused, KnownLists, end_of, ReadsList, StopsAt, StopsAtText, text_asked, shown, fault_of, is, is_only, begins_with, without_first, Open, Read, OutOfMemory, OpenFault}
+use Rattle.program.proofs.Words.{◌≡◌, ◌-◌, ◌^◌, ◌<◌, ℕ, List, ◌∷◌, ◌++◌, [], true, false, inl, inr, refl, ap, arith, map, String, None, Some, Ok, Err, if◌then◌else◌, bytes_eq, string_bytes, lines, ReadLists, at_list, TakesLines, Refused, KnownLists, end_of, ReadsList, StopsAt, StopsAtText, text_asked, shown, fault_of, is, is_only, begins_with, without_first, Cut, Open, Read, OutOfMemory, OpenFault}
 use Rattle.std.specs.Prelude.{codes}
 use Rattle.std.specs.declared.io.ErrorKind.TheVariants as kinds
 use Rattle.lines.specs.declared.fault.RunFault.TheVariants as faults
+use Rattle.lists.specs.declared.read.ListFault.TheVariants as unread
 use Rattle.program.specs.declared.arguments.ArgumentsFault.TheVariants as arguments
 use Rattle.program.specs.declared.log_fault.LogFault.TheVariants as logs
 use Rattle.lists.specs.declared.opening.OpenFault.TheVariants as causes
@@ -13,11 +14,15 @@ use Rattle.lists.specs.declared.opening.OpenFault.TheVariants as causes
 pub a_list_is_read : (done : Unit {0}) → end_of (Ok done) 1 false ≡ Ok done
 a_list_is_read done = refl
 
-pub a_read_fails : end_of (Err faults.Read) 1 false ≡ Err (Read 1)
+pub a_read_fails : end_of (Err (unread.Run faults.Read)) 1 false ≡ Err (Read 1)
 a_read_fails = refl
 
-pub no_memory : end_of (Err faults.Read) 1 true ≡ Err OutOfMemory
+pub no_memory : end_of (Err (unread.Run faults.Read)) 1 true ≡ Err OutOfMemory
 no_memory = refl
+
+-- a list that is cut is told so, unless there was no memory
+pub a_list_is_cut : (end_of (Err unread.Cut) 1 false ≡ Err (Cut 1)) × (end_of (Err unread.Cut) 1 true ≡ Err OutOfMemory)
+a_list_is_cut = (refl, refl)
 
 -- a list that is read was opened, and one that cannot be opened was not
 pub what_is_read_was_opened : (known : KnownLists) (number : ℕ) (name : List ℕ) (before after : ReadLists)

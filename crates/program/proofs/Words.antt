@@ -16,7 +16,7 @@ pub use Rattle.lists.specs.Lists.{ReadLists, TakesLines, at_list}
 pub use Rattle.lists.specs.Private.Readings.{end_of}
 pub use Rattle.lists.specs.Reading.{ReadsList, StopsAt, StopsAtText}
 pub use Rattle.lists.specs.Refusals.{Refused}
-pub use Rattle.lists.specs.declared.named.ReadFault.TheVariants.{Open, OutOfMemory, Read}
+pub use Rattle.lists.specs.declared.named.ReadFault.TheVariants.{Cut, Open, OutOfMemory, Read}
 pub use Rattle.lists.specs.declared.opening.OpenFault.{OpenFault}
 pub use Rattle.program.specs.Endings.{Ending, EndsPrinting, ending, HasTold, HasWritten, IsSilent, status_of}
 pub use Rattle.program.specs.Escapes.{escaped, escaped_behind, escaped_word, hex_digit, kept_at, printed as printed_byte}

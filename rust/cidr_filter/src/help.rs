@@ -15,6 +15,10 @@ Prints the lines of logs whose address is in a list of IP networks.
                     file, one on each line; # and ; begin a comment; - is standard input
     -e TEXT         add this network or range
     --strict        refuse entries of the lists with host bits (10.0.0.5/8)
+    --whole         refuse a list that does not end with a line feed, as it may have been cut off;
+                    a list without any byte is such a list
+    --masks         entries of the lists may also be an IPv4 address and, behind blanks, its mask or
+                    wildcard (10.0.0.0 255.0.0.0, 10.0.0.0 0.255.255.255)
     --skip-bad      report refused lines of the lists and use the others; without this option, a
                     refused line ends the program before any log is read",
     "
@@ -93,5 +97,5 @@ pub(crate) const PROGRAM: &str = "cidr_filter";
 pub(crate) const USAGE: &str =
     "usage: cidr_filter [-v] [-c] [-H | -h] [-n] [-l] [-Z] [-q] [-o] [-m N] \
      [--after TEXT | [-a] [-k N] [-d CHAR | -w]] [--nth first|last|N] [-4 | -6] [--mapped] \
-     [--networks] [--bad drop|keep|stop|report] [--longest] [--strict] [--skip-bad] \
-     (-f LIST | -e TEXT).. [FILE..]; try --help\n";
+     [--networks] [--bad drop|keep|stop|report] [--longest] [--strict] [--whole] \
+     [--masks] [--skip-bad] (-f LIST | -e TEXT).. [FILE..]; try --help\n";

@@ -4,7 +4,7 @@
 
 use fosibegan_core::plain_std::vec::Vec;
 use crate::matcher::{Matcher, Sets, Tables};
-use crate::rows::{LONGEST, NETWORKS, STRICT, TEXT};
+use crate::rows::{LONGEST, MASKS, NETWORKS, STRICT, TEXT, WHOLE};
 use fosibegan_core::ipnetwork::{Ipv4Network, Ipv6Network};
 use fosibegan_core::ipnetwork_sets::{AddressSet, IpAddressSet};
 use cidr_programs::lists::{
@@ -48,10 +48,13 @@ pub(crate) fn question_of(items: &[Item<'_>]) -> Question {
     }
 }
 
-/// Returns the rules of the lists: with `--strict`, host bits are refused.
+/// Returns the rules of the lists: with `--strict`, host bits are refused; with `--whole`, lists
+/// that do not end with a line feed; with `--masks`, a mask or wildcard may be a second word.
 fn rules_of(items: &[Item<'_>]) -> Rules {
     Rules {
         refuses_host_bits: is_given(items, STRICT),
+        is_whole: is_given(items, WHOLE),
+        takes_masks: is_given(items, MASKS),
     }
 }
 

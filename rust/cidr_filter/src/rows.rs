@@ -61,8 +61,14 @@ pub(crate) const NUL: usize = 26;
 /// The row of `--strict`.
 pub(crate) const STRICT: usize = 27;
 
+/// The row of `--whole`.
+pub(crate) const WHOLE: usize = 28;
+
+/// The row of `--masks`.
+pub(crate) const MASKS: usize = 29;
+
 // The options.
-const ROWS: [Row; 29] = log_rows![
+const ROWS: [Row; 31] = log_rows![
     letter!(b'e', Text, "not a network or range"),
     letter!(b'm', Number, "not a number of lines"),
     long!("--longest", Flag, false, ""),
@@ -81,6 +87,8 @@ const ROWS: [Row; 29] = log_rows![
     letter!(b'6', Flag, ""),
     letter!(b'Z', Flag, ""),
     long!("--strict", Flag, false, ""),
+    long!("--whole", Flag, false, ""),
+    long!("--masks", Flag, false, ""),
 ];
 
 // The options that may not be given together.

@@ -10,12 +10,13 @@ use crate::exports::Export;
 use crate::faults::{fault_of, from_count, no_task_fault};
 use crate::named_lists::{add_file, lists_of};
 use crate::rows::{
-    ALLOW_EMPTY, AT_LEAST, COUNT, FORMAT, FROM, IPV4, IPV6, JSON, MAX_CHANGE, MAX_OTHERS, MOST,
-    PREFIX, RANGES, SKIP_BAD, STRICT, table,
+    ALL, ALLOW_EMPTY, AT_LEAST, COUNT, FORMAT, FROM, IPV4, IPV6, JSON, JSON_FIELD, MASKS,
+    MAX_CHANGE, MAX_OTHERS, MOST, PREFIX, RANGES, SKIP_BAD, STRICT, WHOLE, table,
 };
 use crate::set_names::{SetNames, names_of};
 use crate::shapes::Shape;
 use crate::tasks::{Task, task_called};
+use cidr_programs::lists::Rules;
 use cidr_programs::options::faults::{Fault, Subject, about};
 use cidr_programs::options::given::{is_given, value_of};
 use cidr_programs::options::items::Item;
@@ -100,6 +101,17 @@ pub struct ReduceRequest {
     pub merge: Request,
 }
 
+/// Which free networks are looked for.
+#[derive(Clone, Copy, Debug, PartialEq, Eq)]
+pub struct FreeRequest {
+    /// The prefix length of the networks.
+    pub length: u8,
+    /// Whether each of them is printed, or only the first.
+    pub all: bool,
+    /// How the pools and the used addresses are read: as the sides of a `minus`.
+    pub merge: Request,
+}
+
 /// How lists are looked over.
 #[derive(Clone, Copy, Debug, PartialEq, Eq)]
 pub enum Inspection {
@@ -124,6 +136,8 @@ pub enum Command {
     Inspect(Inspection),
     /// The lists after so many addresses, and so many lists of addresses, are searched for these.
     Find(usize, usize),
+    /// Free networks of the lists of the first side are looked for.
+    Free(FreeRequest),
 }
 
 /// What is asked for, and the FILEs, those of the first side first.
@@ -174,7 +188,7 @@ fn command_for<'a>(
         None => Ok(Ok(Asked {
             command: asked_for(task, items, middle),
             names,
-            sets: names_of(items),
+            sets: names_of(alloc, items)?,
         })),
     }
 }
@@ -212,6 +226,7 @@ fn asked_for(task: Task, items: &[Item<'_>], middle: usize) -> Command {
         Task::Check => Command::Inspect(inspection_of(is_given(items, STRICT))),
         Task::Overlaps => Command::Inspect(Inspection::Overlaps),
         Task::Find => Command::Find(middle, from_count(task, items)),
+        Task::Free => Command::Free(free_of(items, middle)),
     }
 }
 
@@ -240,6 +255,15 @@ fn reduction_of(items: &[Item<'_>], middle: usize) -> ReduceRequest {
     }
 }
 
+// Which free networks these options ask for.
+fn free_of(items: &[Item<'_>], middle: usize) -> FreeRequest {
+    FreeRequest {
+        length: length_of(items),
+        all: is_given(items, ALL),
+        merge: request_of(Operation::Minus, Form::Blocks, items, middle),
+    }
+}
+
 // How a `check` looks lists over, strictly or not.
 fn inspection_of(strictly: bool) -> Inspection {
     if strictly {
@@ -265,11 +289,27 @@ pub(crate) fn form_of(usual: Form, items: &[Item<'_>]) -> Form {
 
 // The format of lists that these options give.
 fn shape_of(items: &[Item<'_>]) -> Shape {
-    match (is_given(items, JSON), is_given(items, STRICT)) {
-        (false, false) => Shape::Lines,
-        (false, true) => Shape::StrictLines,
+    let is_strict = is_given(items, STRICT);
+    if is_given(items, JSON_FIELD) {
+        return if is_strict {
+            Shape::StrictFields
+        } else {
+            Shape::Fields
+        };
+    }
+    match (is_given(items, JSON), is_strict) {
+        (false, _) => Shape::Lines(rules_by(items)),
         (true, false) => Shape::Json,
         (true, true) => Shape::StrictJson,
+    }
+}
+
+// The rules of lists of lines that these options give.
+fn rules_by(items: &[Item<'_>]) -> Rules {
+    Rules {
+        refuses_host_bits: is_given(items, STRICT),
+        is_whole: is_given(items, WHOLE),
+        takes_masks: is_given(items, MASKS),
     }
 }
 

@@ -78,8 +78,8 @@ fn number_lacking(request: &ReduceRequest, sets: &Sets) -> Option<&'static str> 
     }
 }
 
-// Whether a set has addresses.
-fn is_any<N: AddressSpace>(set: &AddressSet<N>) -> bool {
+/// Whether a set has addresses.
+pub(crate) fn is_any<N: AddressSpace>(set: &AddressSet<N>) -> bool {
     !set.is_empty()
 }
 

@@ -6,6 +6,7 @@ use fosibegan_core::plain_std::string::String;
 use crate::command_line::{Command, Operation, Request, command_of};
 use crate::context::Context;
 use crate::find::find;
+use crate::free::free;
 use crate::held_back::is_held_back;
 use crate::help::{HELP, PROGRAM, USAGE, VERSION};
 use crate::inspecting::inspect;
@@ -86,6 +87,7 @@ fn obey<L: OpenLists, W: Write, E: Write>(
         Command::Reduce(request) => reduce(request, context, output, errors),
         Command::Inspect(inspection) => inspect(inspection, context, output, errors),
         Command::Find(middle, from) => find(middle, from, rows, context, output, errors),
+        Command::Free(request) => free(request, context, output, errors),
     }
 }
 
@@ -112,9 +114,9 @@ fn merge<L: OpenLists, W: Write, E: Write>(
     }
 }
 
-// Reads the lists of both sides. The lists of the second side are read only if those of the first
-// were read to their ends.
-fn read_sides<L: OpenLists>(
+/// Reads the lists of both sides. The lists of the second side are read only if those of the first
+/// were read to their ends.
+pub(crate) fn read_sides<L: OpenLists>(
     request: Request,
     context: &Context<'_, L>,
 ) -> (Sets, Sets, Refusals, Result<(), ReadFault>) {

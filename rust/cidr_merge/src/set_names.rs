@@ -1,7 +1,11 @@
 // Written by scripts/plain out of crates/cidr_merge/src/set_names.rt
 
-//! The names of the sets that an export fills, their limit, and the texts around each line.
+//! The names of the sets that an export fills, their limit, the texts around each line, and the
+//! names of fields of JSON.
 
+use fosibegan_core::plain_std::vec::Vec;
+use fosibegan_core::plain_std::string::String;
+use crate::field_names::fields_of;
 use crate::rows::{AFTER, BEFORE, MAXELEM, SET, TABLE};
 use fosibegan_core::plain_std::arrayvec::ArrayString;
 use cidr_programs::lines::fault::RunFault;
@@ -10,6 +14,7 @@ use cidr_programs::options::given::{is_given, value_of};
 use cidr_programs::options::items::Item;
 use cidr_programs::options::values::number_in;
 use cidr_programs::program::putting::put_all;
+use fosibegan_core::plain_std::alloc::{AllocError, Global};
 use fosibegan_core::plain_std::io::Write;
 
 /// The greatest length of a name, in bytes: ipset takes 31, and `_ipv4_new` needs nine of them.
@@ -22,7 +27,7 @@ const MOST_ELEMENTS: u64 = 4_294_967_295;
 pub(crate) type Name = ArrayString<NAME_MAX>;
 
 /// The table of nftables, the beginning of both sets' names, how many elements a set of ipset is
-/// made for, and the texts around each line.
+/// made for, the texts around each line, and the names of the fields of JSON that are read.
 #[derive(Debug)]
 pub struct SetNames<'a> {
     /// The table.
@@ -35,17 +40,29 @@ pub struct SetNames<'a> {
     pub before: &'a str,
     /// The text after each line.
     pub after: &'a str,
+    /// The names of the fields whose strings are read.
+    pub fields: Vec<String>,
 }
 
-/// Returns the names and texts that options give, with defaults for those not given.
-pub(crate) fn names_of<'a>(items: &[Item<'a>]) -> SetNames<'a> {
-    SetNames {
+impl<'a> SetNames<'a> {
+    /// The names of the fields whose strings are read.
+    pub(crate) fn field_names(&self) -> &[String] {
+        self.fields.as_slice()
+    }
+}
+
+/// Returns the names and texts that options give, with defaults for those not given. `AllocError`:
+/// out of memory.
+pub(crate) fn names_of<'a>(alloc: Global, items: &[Item<'a>]) -> Result<SetNames<'a>, AllocError> {
+    let fields = fields_of(alloc, items)?;
+    Ok(SetNames {
         table: name_by(items, TABLE),
         set: name_by(items, SET),
         limit: limit_by(items),
         before: value_of(items, BEFORE),
         after: value_of(items, AFTER),
-    }
+        fields,
+    })
 }
 
 /// Prints a line: a text, between the texts before and after each line.

@@ -2,29 +2,38 @@
 
 //! The formats of lists, and how a list is read.
 
+use fosibegan_core::plain_std::string::String;
 use crate::context::Context;
 use crate::named_lists::text_in;
 use cidr_programs::lists::{
-    ListReader, OpenLists, ReadFault, Rules, read_document, read_named, read_text,
+    FieldNames, ListReader, OpenLists, ReadFault, Rules, Strings, read_document, read_named,
+    read_text,
 };
 
 /// The format of lists.
 #[derive(Clone, Copy, Debug, PartialEq, Eq)]
 pub enum Shape {
-    /// Text with one entry on a line.
-    Lines,
-    /// Such text; entries with host bits are refused.
-    StrictLines,
+    /// Text with one entry on a line, by these rules.
+    Lines(Rules),
     /// JSON documents; strings that name no entry are refused only if they look like one.
     Json,
     /// JSON documents; strings that name no entry are refused, and entries with host bits.
     StrictJson,
+    /// JSON documents; only strings of fields are read, and those that name no entry are refused.
+    Fields,
+    /// Such documents; entries with host bits are refused too.
+    StrictFields,
 }
 
 /// Returns the rules of lists of this format.
 pub(crate) fn rules_of(shape: Shape) -> Rules {
-    Rules {
-        refuses_host_bits: matches!(shape, Shape::StrictLines | Shape::StrictJson),
+    match shape {
+        Shape::Lines(rules) => rules,
+        Shape::Json | Shape::Fields => Rules::lenient(),
+        Shape::StrictJson | Shape::StrictFields => Rules {
+            refuses_host_bits: true,
+            ..Rules::lenient()
+        },
     }
 }
 
@@ -42,6 +51,16 @@ pub(crate) fn read_one<L: OpenLists>(
     }
 }
 
+// Returns the strings that are taken of JSON documents, if lists of this format are such documents.
+fn strings_in(shape: Shape, fields: &[String]) -> Option<Strings<'_>> {
+    match shape {
+        Shape::Lines(_) => None,
+        Shape::Json => Some(Strings::LookingLikeEntries),
+        Shape::StrictJson => Some(Strings::All),
+        Shape::Fields | Shape::StrictFields => Some(Strings::OfFields(FieldNames::new(fields))),
+    }
+}
+
 // Opens the FILE of this name, reads it to the end, and closes it.
 fn read_file<L: OpenLists>(
     context: &Context<'_, L>,
@@ -51,9 +70,8 @@ fn read_file<L: OpenLists>(
     reader: &mut ListReader,
 ) -> Result<(), ReadFault> {
     let lists = context.lists;
-    match shape {
-        Shape::Lines | Shape::StrictLines => read_named(lists, name, place, reader),
-        Shape::Json => read_document(context.alloc, lists, name, place, false, reader),
-        Shape::StrictJson => read_document(context.alloc, lists, name, place, true, reader),
+    match strings_in(shape, context.sets.field_names()) {
+        None => read_named(lists, name, place, reader),
+        Some(strings) => read_document(context.alloc, lists, name, place, &strings, reader),
     }
 }

@@ -63,8 +63,8 @@ fn print_split<W: Write, E: Write>(
     end(PROGRAM, written, status, errors)
 }
 
-// Returns the exit status after the pieces were written.
-fn status(skips: bool) -> u8 {
+/// Returns the exit status after networks were written.
+pub(crate) fn status(skips: bool) -> u8 {
     if skips { 3 } else { 0 }
 }
 

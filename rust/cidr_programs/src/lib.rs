@@ -6,6 +6,7 @@
 #![allow(clippy::complexity, clippy::style, clippy::large_enum_variant, clippy::manual_contains,
     clippy::non_canonical_clone_impl)]
 
+pub mod allotting;
 pub mod line_addresses;
 pub mod lines;
 pub mod lists;
@@ -18,6 +19,6 @@ pub mod reducing;
 #[doc(hidden)]
 #[allow(ambiguous_glob_reexports)]
 pub mod in_examples {
-    pub use crate::{line_addresses::*, lines::*, lists::*, log_programs::*, options::*, program::*, reducing::*, *};
+    pub use crate::{allotting::*, line_addresses::*, lines::*, lists::*, log_programs::*, options::*, program::*, reducing::*, *};
     pub use fosibegan_core::in_examples::*;
 }

@@ -7,6 +7,7 @@
 //! networks that a list names take memory.
 
 mod bytes;
+mod chosen;
 mod comment;
 mod cutting;
 mod document;
@@ -14,9 +15,12 @@ mod encoding;
 mod entry;
 mod excerpt;
 mod fault;
+mod fields;
 mod hint;
+mod json_texts;
 mod list_reader;
 mod looks;
+mod masks;
 mod named;
 mod networks;
 mod open_lists;
@@ -29,6 +33,8 @@ mod strings;
 mod trimming;
 
 pub use bytes::{BytesFault, read_bytes};
+pub use chosen::{FieldNames, Strings};
+pub use comment::without_comment;
 pub use document::{DOCUMENT_MAX, read_document};
 pub use encoding::{Encoding, encoding_of};
 pub use entry::{Entry, EntryFault, read_entry};
@@ -37,10 +43,11 @@ pub use fault::LineFault;
 pub use hint::meant;
 pub use list_reader::ListReader;
 pub use looks::looks_like_entry;
+pub use masks::read_entry_by;
 pub use named::{ReadFault, read_named, read_text};
 pub use open_lists::OpenLists;
 pub use opening::{OpenFault, open_input, open_list};
-pub use read::{LINE_MAX, read_list};
+pub use read::{LINE_MAX, ListFault, read_list};
 pub use refusals::{REFUSALS_MAX, Refusal, Refusals};
 pub use rules::{Rules, has_host_bits};
 pub use trimming::{Blank, ByteKind, front_len, trim};

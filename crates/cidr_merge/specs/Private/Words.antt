@@ -10,3 +10,4 @@ IsCommandWithin count (commands.Split request) = Unit {0}
 IsCommandWithin count (commands.Reduce request) = Unit {0}
 IsCommandWithin count (commands.Inspect inspection) = Unit {0}
 IsCommandWithin count (commands.Find middle from) = middle + from ≤ count
+IsCommandWithin count (commands.Free request) = request.merge.middle ≤ count

@@ -24,6 +24,7 @@ IsNetworkFault text faults.Range = ⊥
 IsNetworkFault text (faults.Encoding encoding) = ⊥
 IsNetworkFault text faults.Second = ⊥
 IsNetworkFault text faults.HostBits = ⊥
+IsNetworkFault text faults.Mask = ⊥
 
 -- reading the text gives the network that it names, or, if it names none, the reason
 abbrev pub ReadsNetworkText : List ℕ → Result Entry EntryFault → Type 0
@@ -43,6 +44,7 @@ IsRangeFault before after faults.Prefix = ⊥
 IsRangeFault before after (faults.Encoding encoding) = ⊥
 IsRangeFault before after faults.Second = ⊥
 IsRangeFault before after faults.HostBits = ⊥
+IsRangeFault before after faults.Mask = ⊥
 IsRangeFault before after faults.Address = (first last : IpAddr) → ¬ (NamesEnds before after first last)
 IsRangeFault before after faults.Range = (first : IpAddr) × (last : IpAddr) × NamesEnds before after first last
     × ¬ (IsRange first last)

@@ -125,7 +125,7 @@ fn main() {
     println!("{count} documents, and {mutations} changed ones, of which {read} are JSON: {failed} differ from serde_json");
     let most = memory::most_for_each_byte();
     println!("at most {most:.1} bytes of memory for each byte of a document");
-    if failed > 0 || most > 32.0 || read < mutations / 20 {
+    if failed > 0 || most > 40.0 || read < mutations / 20 {
         std::process::exit(1);
     }
 }

@@ -6,7 +6,12 @@ use crate::lists::cutting::before;
 use crate::lists::trimming::{Blank, ByteKind, front_len, trim};
 
 /// Returns what stands before the first `#` or `;` of a line, or the whole line if it has neither.
-pub(crate) fn without_comment(line: &[u8]) -> &[u8] {
+///
+/// ```
+/// # use cidr_programs::in_examples::*;
+/// assert_eq!(cidr_programs::lists::without_comment(b"10.0.0.0/8 # private"), b"10.0.0.0/8 ".as_slice());
+/// ```
+pub fn without_comment(line: &[u8]) -> &[u8] {
     before(before(line, b'#'), b';')
 }
 

@@ -3,7 +3,9 @@
 //! Reads a JSON document as a list.
 
 use crate::lists::bytes::{BytesFault, read_bytes};
-use crate::lists::encoding::encoding_of;
+use crate::lists::chosen::Strings;
+use crate::lists::fields::{has_field, take_fields};
+use crate::lists::json_texts::documents_of;
 use crate::lists::list_reader::ListReader;
 use crate::lists::named::ReadFault;
 use crate::lists::open_lists::OpenLists;
@@ -22,27 +24,35 @@ pub const DOCUMENT_MAX: usize = 1_073_741_824;
 /// Opens the JSON document (RFC 8259) of this name, which is the word at the index `place`, reads
 /// it, and closes it.
 ///
-/// Each of its strings that is the text of a network or of a range is an entry. A string may stand
-/// at any depth, as an element of an array or as a value of an object; keys are not looked at. If
-/// an object has a key more than once, the last value counts.
+/// Bytes that are no document, but of which each line that is not blank is one, are read as these
+/// documents, one after another (JSON Lines).
 ///
-/// Any other string is refused if it looks like an entry (`looks_like_entry`) or the reading is
-/// strict, and else skipped; one of more than 1,024 bytes is no entry. For refusals, strings are
-/// numbered as lines are, in the order of `Value`, which sorts the keys of an object.
+/// Each string that is taken and is the text of a network or of a range is an entry. A string may
+/// stand at any depth, as an element of an array or as a value of an object; keys are no strings.
+/// If an object has a key more than once, the last value counts. `strings` says which are taken:
+///
+/// - `LookingLikeEntries` or `All`: all. Any other string is refused if it looks like an entry
+///   (`looks_like_entry`) or all have to be entries, and else skipped.
+/// - `OfFields`: the values of an object's members with one of the names, and the elements of arrays
+///   that are such values, also of arrays within them. Each has to be an entry: any other string, a
+///   boolean and a number are refused, and `null` is skipped.
+///
+/// A string of more than 1,024 bytes is no entry. For refusals, strings that are taken are numbered
+/// as lines are, through all documents, in the order of `Value`, which sorts the keys of an object.
 ///
 /// An error is returned if the document cannot be opened, a read fails, it has more than
-/// 1,073,741,824 bytes, it is not JSON in UTF-8 or has more than 127 levels, or memory runs out.
-/// The reader is then unchanged, unless memory ran out for an entry.
+/// 1,073,741,824 bytes, it is not JSON in UTF-8 or has more than 127 levels, no member has one of
+/// the names, or memory runs out. The reader is then unchanged, unless memory ran out for an entry.
 ///
 /// ```
 /// # use cidr_programs::in_examples::*;
 /// # let rt = HostRuntime::new();
-/// use cidr_programs::lists::{OpenFault, ReadFault, read_document};
+/// use cidr_programs::lists::{OpenFault, ReadFault, Strings, read_document};
 ///
 /// let system = program::system::System::new(&rt);
 /// let mut reader = cidr_programs::lists::ListReader::new(Global, cidr_programs::lists::Rules::lenient(), cidr_programs::lists::Refusals::new());
 /// let fault = ReadFault::Open(1, OpenFault::Missing);
-/// let read = read_document(Global, &system, "no such file", 1, false, &mut reader);
+/// let read = read_document(Global, &system, "no such file", 1, &Strings::All, &mut reader);
 /// assert_eq!(read, Err(fault));
 /// ```
 pub fn read_document<L: OpenLists>(
@@ -50,38 +60,67 @@ pub fn read_document<L: OpenLists>(
     lists: &L,
     name: &str,
     place: usize,
-    is_strict: bool,
+    strings: &Strings<'_>,
     reader: &mut ListReader,
 ) -> Result<(), ReadFault> {
     let bytes = match read_bytes(alloc, lists, name, DOCUMENT_MAX) {
         Ok(bytes) => bytes,
         Err(fault) => return Err(not_read(fault, place)),
     };
-    take_document(alloc, bytes.as_slice(), place, is_strict, reader)
+    take_bytes(alloc, bytes.as_slice(), place, strings, reader)
 }
 
-// Takes the strings of the document of these bytes. Nothing changes if they are no document.
-fn take_document(
+// Takes the strings of the documents that these bytes are. Nothing changes if they are none, or no
+// member has one of the names.
+fn take_bytes(
     alloc: Global,
     bytes: &[u8],
     place: usize,
-    is_strict: bool,
+    strings: &Strings<'_>,
     reader: &mut ListReader,
 ) -> Result<(), ReadFault> {
-    let value = match Value::from_slice(alloc, bytes) {
-        Ok(value) => value,
-        Err(error) if error.is_memory() => return Err(ReadFault::OutOfMemory),
-        Err(error) => {
-            let line = error.line() as u64;
-            return Err(ReadFault::NotJson(place, line, encoding_of(bytes)));
-        }
+    let documents = match documents_of(alloc, bytes, place) {
+        Ok(documents) => documents,
+        Err(fault) => return Err(fault),
     };
+    if !has_fields(strings, documents.as_slice()) {
+        return Err(ReadFault::NoField(place));
+    }
     reader.begin(place);
-    take_value(reader, &value, is_strict);
+    take_documents(reader, documents.as_slice(), strings);
     if reader.is_out_of_memory() {
         return Err(ReadFault::OutOfMemory);
     }
     Ok(())
+}
+
+// Returns whether documents have a field of which strings are taken.
+fn has_fields(strings: &Strings<'_>, documents: &[Value]) -> bool {
+    let Strings::OfFields(names) = strings else {
+        return true;
+    };
+    for document in documents {
+        if has_field(names, document) {
+            return true;
+        }
+    }
+    false
+}
+
+// Takes the strings of documents, one after another.
+fn take_documents(reader: &mut ListReader, documents: &[Value], strings: &Strings<'_>) {
+    for document in documents {
+        take_document(reader, document, strings);
+    }
+}
+
+// Takes the strings of a document.
+fn take_document(reader: &mut ListReader, document: &Value, strings: &Strings<'_>) {
+    match strings {
+        Strings::LookingLikeEntries => take_value(reader, document, false),
+        Strings::All => take_value(reader, document, true),
+        Strings::OfFields(names) => take_fields(reader, names, document, false),
+    }
 }
 
 // Returns why the document that the word at this index names was not read, by the fault of its

@@ -58,11 +58,14 @@ pub enum EntryFault {
     Second,
     /// The network has host bits, and such entries are refused (`Rules`).
     HostBits,
+    /// What stands after the address 0.0.0.0 is a mask and a wildcard: `0.0.0.0 255.255.255.255`
+    /// may be one address or all of them.
+    Mask,
 }
 
 impl EntryFault {
-    /// Returns the fault in words, `format`, `address`, `prefix`, `range`, `second entry` or
-    /// `host bits`, or the name of the encoding.
+    /// Returns the fault in words, `format`, `address`, `prefix`, `range`, `second entry`,
+    /// `host bits` or `mask or wildcard`, or the name of the encoding.
     ///
     /// ```
     /// # use cidr_programs::in_examples::*;
@@ -77,6 +80,7 @@ impl EntryFault {
             EntryFault::Encoding(encoding) => encoding.text(),
             EntryFault::Second => "second entry",
             EntryFault::HostBits => "host bits",
+            EntryFault::Mask => "mask or wildcard",
         }
     }
 }
@@ -126,8 +130,8 @@ fn read_line(line: &[u8]) -> Result<Option<Entry>, EntryFault> {
     }
 }
 
-// Whether a text names an entry.
-fn names_entry(text: &[u8]) -> bool {
+/// Whether a text names an entry.
+pub(crate) fn names_entry(text: &[u8]) -> bool {
     read_plain(text).is_ok()
 }
 

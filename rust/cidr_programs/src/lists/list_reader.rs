@@ -3,9 +3,10 @@
 //! Collects what is read of lists.
 
 use fosibegan_core::plain_std::vec::Vec;
-use crate::lists::entry::{Entry, EntryFault, read_entry, read_text};
+use crate::lists::entry::{Entry, EntryFault, read_text};
 use crate::lists::fault::LineFault;
 use crate::lists::looks::looks_like_entry;
+use crate::lists::masks::read_entry_by;
 use crate::lists::networks::Networks;
 use crate::lists::read::LINE_MAX;
 use crate::lists::refusals::{Refusal, Refusals};
@@ -106,13 +107,18 @@ impl ListReader {
         (self.v4.into_vec(), self.v6.into_vec(), self.refusals)
     }
 
+    /// Whether the rules say that lists end with a line feed.
+    pub(crate) fn wants_whole_lists(&self) -> bool {
+        self.rules.is_whole
+    }
+
     /// Takes a line of at most 1,024 bytes, unless memory has run out.
     pub(crate) fn take_line(&mut self, line: &[u8]) {
         if self.is_out_of_memory() {
             return;
         }
         self.next_line();
-        match read_entry(line) {
+        match read_entry_by(self.rules, line) {
             Ok(None) => {}
             Ok(Some(entry)) => self.take_allowed(entry, line),
             Err(fault) => self.refuse(LineFault::Entry(fault), line),

@@ -25,12 +25,32 @@ pub const LINE_MAX: usize = 1024;
 /// The most bytes that are read and not yet taken.
 const BUFFER_MAX: usize = 65536;
 
+/// Why a list was not read to its end, or is refused.
+///
+/// ```
+/// # use cidr_programs::in_examples::*;
+/// let rules = Rules { is_whole: true, ..Rules::lenient() };
+/// let mut lists = ListReader::new(Global, rules, Refusals::new());
+/// let mut list = cidr_programs::lines::watched::Watched::new(b"10.0.0.0/8\n192.0.2.0/2".as_slice());
+/// assert_eq!(cidr_programs::lists::read_list(&mut lists, 1, &mut list), Err(cidr_programs::lists::ListFault::Cut));
+/// ```
+#[derive(Clone, Copy, Debug, PartialEq, Eq)]
+pub enum ListFault {
+    /// A read failed, or there are more than 18,446,744,073,709,551,615 bytes.
+    Run(RunFault),
+    /// The list does not end with a line feed, so that it may have been cut, and such lists are
+    /// refused (`Rules`).
+    Cut,
+}
+
 /// Reads a list to its end, or until memory runs out. `list` is a number that the caller chooses,
 /// by which refused lines name the list.
 ///
 /// The error is `RunFault::Read` if a read failed: exactly the lines that were complete before it
 /// were taken. It is `RunFault::InputTooLong` if there are more than 18,446,744,073,709,551,615
-/// bytes. Memory is allocated only for what the list names, unless the device allocates.
+/// bytes. It is `ListFault::Cut` if the rules say that lists end with a line feed and this one does
+/// not; its lines were taken. Memory is allocated only for what the list names, unless the device
+/// allocates.
 ///
 /// ```
 /// # use cidr_programs::in_examples::*;
@@ -48,7 +68,22 @@ pub fn read_list<R: Read>(
     lists: &mut ListReader,
     list: usize,
     reader: &mut Watched<R>,
-) -> Result<(), RunFault> {
+) -> Result<(), ListFault> {
+    let wants_whole = lists.wants_whole_lists();
+    match read_lines(lists, list, reader) {
+        Ok(ends) if wants_whole && !ends => Err(ListFault::Cut),
+        Ok(_) => Ok(()),
+        Err(fault) => Err(ListFault::Run(fault)),
+    }
+}
+
+// Reads a list to its end, or until memory runs out. Returns whether it ends with a line feed, and
+// `true` if memory ran out before its end.
+fn read_lines<R: Read>(
+    lists: &mut ListReader,
+    list: usize,
+    reader: &mut Watched<R>,
+) -> Result<bool, RunFault> {
     lists.begin(list);
     let mut slice = [0u8; BUFFER_MAX];
     let mut lines = LineBuffer::new(&mut slice, LINE_MAX);
@@ -62,25 +97,33 @@ pub fn read_list<R: Read>(
             return Err(RunFault::InputTooLong);
         }
         room -= count as u64;
-        take_whole_lines(lists, &mut lines);
+        let has_none = take_whole_lines(lists, &mut lines);
         if count == 0 {
-            return Ok(());
+            return Ok(ends_whole(has_none, room));
         }
         if lists.is_out_of_memory() {
-            return Ok(());
+            return Ok(true);
         }
     }
 }
 
-// Takes the whole lines that are pending in the buffer.
-fn take_whole_lines(lists: &mut ListReader, lines: &mut LineBuffer<'_>) {
+// Whether a list ends with a line feed, by whether nothing was pending at its end, and how many
+// bytes it may have more.
+fn ends_whole(has_none: bool, room: u64) -> bool {
+    has_none && room < u64::MAX
+}
+
+// Takes the whole lines that are pending in the buffer. Returns whether there was none.
+fn take_whole_lines(lists: &mut ListReader, lines: &mut LineBuffer<'_>) -> bool {
+    let mut has_none = true;
     'lines: loop {
         match lines.next() {
             NextLine::Line(_) => lists.take_line(lines.line()),
             NextLine::TooLong => lists.refuse_long_line(),
-            NextLine::Ask => return,
-            NextLine::End => return,
+            NextLine::Ask => return has_none,
+            NextLine::End => return has_none,
         }
+        has_none = false;
     }
 }
 

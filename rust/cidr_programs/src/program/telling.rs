@@ -178,6 +178,17 @@ pub fn tell_fault<E: Write>(
             tell_number(line, errors);
             tell(": not JSON, or more than 127 levels\n", errors);
         }
+        ReadFault::Cut(place) => {
+            tell_list(program, words, place, errors);
+            tell(
+                ": no line feed at its end; it may have been cut off\n",
+                errors,
+            );
+        }
+        ReadFault::NoField(place) => {
+            tell_list(program, words, place, errors);
+            tell(": no field of a name that is given\n", errors);
+        }
         ReadFault::OutOfMemory => tell_of(program, ": out of memory\n", errors),
     }
 }

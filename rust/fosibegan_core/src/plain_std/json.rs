@@ -1,8 +1,8 @@
 //! Reads JSON (RFC 8259) for its strings, in the place of the crate `serde_json`.
 //!
-//! It refuses what `serde_json` refuses, at the same line, and gives the same strings in the same order. A string without
-//! escapes is a part of the document; numbers, keys, and elements and members without strings are checked, but not kept.
-//! The memory that is asked for is at most 32 bytes for each byte of the document, and a lack of it is an error.
+//! It refuses what `serde_json` refuses, at the same line, and gives the same values in the same order, but that of a
+//! number is checked and not kept. A string or a key without escapes is a part of the document. The memory that is asked
+//! for is at most 40 bytes for each byte of the document, and a lack of it is an error.
 
 use crate::plain_std::alloc::{AllocError, Global};
 use crate::plain_std::string::String;
@@ -17,16 +17,16 @@ mod texts;
 
 pub use texts::Text;
 
-/// A value of a document, with the strings that are in it.
+/// A value of a document.
 #[derive(Debug, PartialEq)]
 pub enum Value<'a> {
     Null,
     Bool(bool),
     Number(Number),
     String(Text<'a>),
-    /// The elements of an array that have strings in them.
+    /// The elements of an array.
     Array(Box<[Value<'a>]>),
-    /// The members of an object whose values have strings in them.
+    /// The members of an object.
     Object(Map<String, Value<'a>>),
 }
 
@@ -34,18 +34,26 @@ pub enum Value<'a> {
 #[derive(Debug, PartialEq)]
 pub struct Number(());
 
-/// The values of the members of an object, in the order of their keys, which are not kept. If a key occurs more than
-/// once, only its last value is here.
+/// Values that have keys in an object.
+pub trait HasKey {
+    type Key: fmt::Debug + PartialEq;
+}
+
+impl<'a> HasKey for Value<'a> {
+    type Key = Text<'a>;
+}
+
+/// The members of an object, in the order of their keys. If a key occurs more than once, only its last value is here.
 #[derive(Debug, PartialEq)]
-pub struct Map<K, V> {
-    values: Box<[V]>,
+pub struct Map<K, V: HasKey> {
+    members: Box<[(V::Key, V)]>,
     keys: PhantomData<fn() -> K>,
 }
 
-impl<K, V> Map<K, V> {
-    /// The values, each with nothing for its key.
-    pub fn iter(&self) -> impl Iterator<Item = ((), &V)> {
-        self.values.iter().map(|value| ((), value))
+impl<K, V: HasKey> Map<K, V> {
+    /// The keys and values.
+    pub fn iter(&self) -> impl Iterator<Item = (&V::Key, &V)> {
+        self.members.iter().map(|(key, value)| (key, value))
     }
 }
 
@@ -55,13 +63,9 @@ impl<'a> Value<'a> {
         reader::Reader::new(text).document()
     }
 
-    fn has_strings(&self) -> bool {
-        match self {
-            Value::Null | Value::Bool(_) | Value::Number(_) => false,
-            Value::String(_) => true,
-            Value::Array(items) => !items.is_empty(),
-            Value::Object(members) => !members.values.is_empty(),
-        }
+    /// The value of this document.
+    pub fn from_str(alloc: Global, text: &'a str) -> Result<Self, Error> {
+        Value::from_slice(alloc, text.as_bytes())
     }
 }
 

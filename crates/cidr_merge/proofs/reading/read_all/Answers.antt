@@ -3,7 +3,7 @@ use Rattle.cidr_merge.proofs.reading.read_all.Goals as goal
 
 pub loop-place-preserved : goal.loop-place-preserved
 loop-place-preserved g c =
-    let from = source (g.L.OpenLists.known c.args.context.now.lists.now) c.args.shape in
+    let from = source (g.L.OpenLists.known c.args.context.now.lists.now) c.args.context.now.sets.now.fields c.args.shape in
     record {
       read = reads_on from c.args.names.now c.args.first
           c.loop-place.place c.index-names-place.result c.args.reader.now c.loop-place.reader
@@ -16,7 +16,7 @@ loop-place-preserved g c =
 
 pub returns-in_err-read_one-clause-stopped : goal.returns-in_err-read_one-clause-stopped
 returns-in_err-read_one-clause-stopped g c =
-    let from = source (g.L.OpenLists.known c.args.context.now.lists.now) c.args.shape in
+    let from = source (g.L.OpenLists.known c.args.context.now.lists.now) c.args.context.now.sets.now.fields c.args.shape in
     let p = err_from_is_err_and c.from_residual.result c.from_residual.ensures.1 in
     rw (p.1, p.2)
     (stops_in from c.args.names.now c.args.first c.loop-place.place c.index-names-place.result c.args.reader.now

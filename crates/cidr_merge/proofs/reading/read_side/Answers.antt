@@ -4,7 +4,7 @@ use Rattle.cidr_merge.proofs.reading.read_side.Goals as goal
 pub returns-clause-read : goal.returns-clause-read
 returns-clause-read g c =
     side_ok c.read_all-end.result (source
-    (g.L.OpenLists.known c.args.context.now.lists.now) c.args.shape) c.args.first
+    (g.L.OpenLists.known c.args.context.now.lists.now) c.args.context.now.sets.now.fields c.args.shape) c.args.first
     c.args.names.now c.args.refusals _ c.new-reader.result
     c.read_all-end.new.reader _ (c.new-reader.ensures ∙ ap (λ rules. nothing_read rules c.args.refusals) c.rules_of.ensures) c.read_all-end.ensures.read
     c.read_all-end.ensures.memory c.into_sets-v4.ensures.v4 c.into_sets-v4.ensures.v6
@@ -13,5 +13,5 @@ returns-clause-read g c =
 pub returns-clause-stopped : goal.returns-clause-stopped
 returns-clause-stopped g c =
     side_stopped c.read_all-end.result (source
-    (g.L.OpenLists.known c.args.context.now.lists.now) c.args.shape) c.args.first
+    (g.L.OpenLists.known c.args.context.now.lists.now) c.args.context.now.sets.now.fields c.args.shape) c.args.first
     c.args.names.now c.args.refusals c.new-reader.result (c.new-reader.ensures ∙ ap (λ rules. nothing_read rules c.args.refusals) c.rules_of.ensures) c.read_all-end.ensures.stopped

@@ -1,36 +1,35 @@
-use Rattle.cidr_merge.proofs.Known.{◌≡◌, ℕ, List, true, false, refl, sym, subst, Result, Ok, Err, IfErr, StopsAtDocument, KnownLists, ReadLists, ReadFault, StopsBy, Shape, StrictJson}
-use Rattle.cidr_merge.specs.declared.shapes.Shape.TheVariants.{Json}
+use Rattle.cidr_merge.proofs.Known.{◌≡◌, ◌∙◌, ℕ, List, refl, ap, subst, Option, Some, None, Result, Ok, Err, OnOk, IfErr, Strings, ReadsDocument, StopsAtDocument, KnownLists, ReadLists, ReadFault, ReadsFile, StopsFile, strings_in}
 use Rattle.cidr_merge.proofs.shapes.read_file.Goals as goal
 
+-- the strings of documents are read
+document_reads : {T : Type 0} (result : Result T ReadFault) (given : Option Strings) (strings : Strings)
+    (known : KnownLists) (place : ℕ) (name : List ℕ) (before after : ReadLists) → Some strings ≡ given
+    → OnOk result (ReadsDocument known strings place name before after)
+    → OnOk result (ReadsFile given known place name before after)
+document_reads result given strings known place name before after e h =
+    subst (λ (g : Option Strings). OnOk result (ReadsFile g known place name before after)) e h
+
 -- the reader has the refused lines
-json_stops : {T : Type 0} (known : KnownLists) (shape : Shape) (place : ℕ) (name : List ℕ)
-    (before : ReadLists) (result : Result T ReadFault) (now : ReadLists)
-    → shape ≡ Json → IfErr result (λ fault. StopsAtDocument known false place name before fault now)
-    → IfErr result (λ fault. StopsBy shape known place name before fault now.refused)
-json_stops known shape place name before (Ok done) now w h = tt
-json_stops known shape place name before (Err fault) now w h =
-    subst (λ s. StopsBy s known place name before fault now.refused) (sym w) (now, h, refl)
+document_stops : {T : Type 0} (result : Result T ReadFault) (given : Option Strings) (strings : Strings)
+    (known : KnownLists) (place : ℕ) (name : List ℕ) (before after : ReadLists) → Some strings ≡ given
+    → IfErr result (λ fault. StopsAtDocument known strings place name before fault after)
+    → IfErr result (λ fault. StopsFile given known place name before fault after.refused)
+document_stops (Ok done) given strings known place name before after e h = tt
+document_stops (Err fault) given strings known place name before after e h =
+    subst (λ (g : Option Strings). StopsFile g known place name before fault after.refused) e (after, h, refl)
 
-strict_json_stops : {T : Type 0} (known : KnownLists) (shape : Shape) (place : ℕ) (name : List ℕ)
-    (before : ReadLists) (result : Result T ReadFault) (now : ReadLists)
-    → shape ≡ StrictJson
-    → IfErr result (λ fault. StopsAtDocument known true place name before fault now)
-    → IfErr result (λ fault. StopsBy shape known place name before fault now.refused)
-strict_json_stops known shape place name before (Ok done) now w h = tt
-strict_json_stops known shape place name before (Err fault) now w h =
-    subst (λ s. StopsBy s known place name before fault now.refused) (sym w) (now, h, refl)
-
-pub returns-in-Json-clause-stopped : goal.returns-in-Json-clause-stopped
-returns-in-Json-clause-stopped g c =
-    json_stops
-    (g.L.OpenLists.known c.args.context.now.lists.now) c.args.shape c.args.place c.args.name.now
-    c.args.reader.now c.read_document.result c.read_document.new.reader
-    c.in-Json.is c.read_document.ensures.stopped
-
-pub returns-in-StrictJson-clause-stopped : goal.returns-in-StrictJson-clause-stopped
-returns-in-StrictJson-clause-stopped g c =
-    strict_json_stops
-    (g.L.OpenLists.known c.args.context.now.lists.now) c.args.shape c.args.place c.args.name.now
-    c.args.reader.now c.read_document-in-StrictJson.result
-    c.read_document-in-StrictJson.new.reader c.in-StrictJson.is
-    c.read_document-in-StrictJson.ensures.stopped
+pub returns-in-Some : goal.returns-in-Some
+returns-in-Some g c =
+    let known = g.L.OpenLists.known c.args.context.now.lists.now in
+    let given = strings_in c.args.shape c.args.context.now.sets.now.fields in
+    let strings = c.in-Some.strings in
+    let same = c.in-Some.ensures ∙ ap (strings_in c.args.shape) c.field_names.ensures in
+    let before = c.args.reader.now in
+    let after = c.read_document.new.reader in
+    record {
+      read = document_reads c.read_document.result given strings known c.args.place c.args.name.now before after same
+          c.read_document.ensures.read;
+      memory = c.read_document.ensures.memory;
+      stopped = document_stops c.read_document.result given strings known c.args.place c.args.name.now before after same
+          c.read_document.ensures.stopped;
+    }

@@ -1,57 +1,15 @@
-use Rattle.lists.proofs.Known.{◌≡◌, ◌-◌, ◌∙◌, ◌==◌, ℕ, true, false, List, refl, sym, ap, subst, arith, ne_eqb, Some, lines, device_of, Read, InputTooLong, still_works, ReadLists, TakesLines, TakesBefore, goes_on, goes_idle, stops_reading, stops_too_long, ends, runs_out}
+use Rattle.lists.proofs.Known.{◌∙◌, sym, told_cut, told_whole}
 use Rattle.lists.proofs.read.read_list.Goals as goal
 
-pub returns-in-Err-clause-stopped : goal.returns-in-Err-clause-stopped
-returns-in-Err-clause-stopped g c =
-    let remaining = g.R.Read.remaining in
-    subst (λ (s : ReadLists). TakesBefore (remaining (device_of c.args.reader.now))
-    (remaining (device_of c.ask.new.reader)) Read s c.reads.lists) c.begin.ensures
-    (stops_reading _ _ _ c.reads.lines _ _ c.reads.room c.reads.invariant.taken c.in-Err.ensures.err)
+pub returns-in-Ok-clause-stopped : goal.returns-in-Ok-clause-stopped
+returns-in-Ok-clause-stopped g c = (
+  sym c.wants_whole_lists-wants_whole.ensures ∙ c.if-wants_whole.true,
+  λ input e. (
+    told_cut c.in-Ok.ends _ input c.if-not-ends.true (c.in-Ok.ensures.ends input e),
+    c.in-Ok.ensures.taken input e,
+  ),
+)
 
-pub returns-then-count-room-clause-stopped : goal.returns-then-count-room-clause-stopped
-returns-then-count-room-clause-stopped g c =
-    let remaining = g.R.Read.remaining in
-    let r = c.in-Ok.ensures.read in
-    subst (λ (s : ReadLists). TakesBefore (remaining (device_of c.args.reader.now))
-    (remaining (device_of c.ask.new.reader)) InputTooLong s c.reads.lists) c.begin.ensures
-    (stops_too_long _ _ _ c.reads.lines _ _ c.reads.room c.reads.invariant.taken r.chunk r.consumed
-    (omega (arith, r.counted, c.if-count-room.true)))
-
-pub returns-then-count-eq0-clause-taken : goal.returns-then-count-eq0-clause-taken
-returns-then-count-eq0-clause-taken g c =
-    let r = c.in-Ok.ensures.read in
-    let ended : c.take_whole_lines.new.lines.ended ≡ true = c.take_whole_lines.ensures.ended ∙ c.in-Ok.ensures.ended
-    ∙ ap (λ n. n == 0) c.if-count-eq0.true in
-    subst (λ (s : ReadLists). (input : List ℕ) → g.R.Read.remaining (device_of c.args.reader.now) ≡ Some input
-    → TakesLines s (lines input) c.take_whole_lines.new.lists) c.begin.ensures
-    (ends _ _ _ c.reads.lines c.ask.new.self c.take_whole_lines.new.lines _ _ _ c.reads.room c.reads.invariant.taken
-    r.chunk r.consumed (r.at_end c.if-count-eq0.true) r.holds
-    c.take_whole_lines.ensures.taken ended)
-
-pub returns-then-is_out_of_memory-clause-taken : goal.returns-then-is_out_of_memory-clause-taken
-returns-then-is_out_of_memory-clause-taken g c =
-    let r = c.in-Ok.ensures.read in
-    let going : c.take_whole_lines.new.lines.ended ≡ false = c.take_whole_lines.ensures.ended ∙ c.in-Ok.ensures.ended
-    ∙ ne_eqb c.in-Ok.count 0 c.if-count-eq0.false in
-    subst (λ (s : ReadLists). (input : List ℕ) → g.R.Read.remaining (device_of c.args.reader.now) ≡ Some input
-    → TakesLines s (lines input) c.take_whole_lines.new.lists) c.begin.ensures
-    (runs_out _ _ c.take_whole_lines.new.lines _ _ (c.reads.room - c.in-Ok.count)
-    (goes_on _ _ _ c.reads.lines c.ask.new.self c.take_whole_lines.new.lines _ _ _ c.reads.room
-    (c.reads.room - c.in-Ok.count) c.in-Ok.count c.reads.invariant.taken r.chunk r.counted
-    c.if-count-room.false refl r.consumed r.holds c.take_whole_lines.ensures.taken going)
-    (sym c.is_out_of_memory.ensures ∙ c.if-is_out_of_memory.true))
-
-pub reads-preserved : goal.reads-preserved
-reads-preserved g c =
-    let r = c.in-Ok.ensures.read in
-    let going : c.take_whole_lines.new.lines.ended ≡ false = c.take_whole_lines.ensures.ended ∙ c.in-Ok.ensures.ended
-    ∙ ne_eqb c.in-Ok.count 0 c.if-count-eq0.false in
-    record {
-      taken = goes_on _ _ _ c.reads.lines c.ask.new.self c.take_whole_lines.new.lines _ _ _ c.reads.room
-          (c.reads.room - c.in-Ok.count) c.in-Ok.count c.reads.invariant.taken r.chunk r.counted
-          c.if-count-room.false refl r.consumed r.holds c.take_whole_lines.ensures.taken going;
-      idle = goes_idle _ _ c.reads.lines c.ask.new.self c.take_whole_lines.new.lines _ _ _ c.reads.room
-          c.reads.invariant.taken r.chunk r.holds c.take_whole_lines.ensures.taken going;
-      limit = c.take_whole_lines.ensures.limit ∙ c.in-Ok.ensures.limit ∙ c.reads.invariant.limit;
-      failed = still_works _ _ _ c.in-Ok.ensures.failed c.reads.invariant.failed;
-    }
+pub returns-in-Ok-2-clause-whole : goal.returns-in-Ok-2-clause-whole
+returns-in-Ok-2-clause-whole g c =
+    λ wants works input e. told_whole c.in-Ok.ends _ input c.if-not-ends.false (c.in-Ok.ensures.ends input e) works

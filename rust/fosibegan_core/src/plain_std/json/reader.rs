@@ -18,6 +18,12 @@ struct Member<'a> {
     value: Value<'a>,
 }
 
+impl Member<'_> {
+    fn has_same_key(&self, other: &Self) -> bool {
+        texts::order(self.key, other.key).is_eq()
+    }
+}
+
 pub(super) struct Reader<'a> {
     bytes: &'a [u8],
     at: usize,
@@ -119,10 +125,8 @@ impl<'a> Reader<'a> {
         while self.goes_on(b']', is_first)? {
             is_first = false;
             let item = self.value()?;
-            if item.has_strings() {
-                self.items.try_reserve(1).map_err(AllocError::from)?;
-                self.items.push(item);
-            }
+            self.items.try_reserve(1).map_err(AllocError::from)?;
+            self.items.push(item);
         }
         let count = self.items.len() - start;
         Ok(Value::Array(exactly(count, self.items.drain(start..))?))
@@ -145,13 +149,20 @@ impl<'a> Reader<'a> {
             self.members.try_reserve(1).map_err(AllocError::from)?;
             self.members.push(Member { key, value });
         }
-        let members = &mut self.members[start..];
-        if members.iter().any(|member| member.value.has_strings()) {
-            sort(members);
+        sort(&mut self.members[start..]);
+        let count = self.members[start..].chunk_by(Member::has_same_key).count();
+        let mut members: Vec<(Text<'a>, Value<'a>)> = Vec::new();
+        members.try_reserve_exact(count).map_err(AllocError::from)?;
+        let mut last = None;
+        for member in self.members.drain(start..) {
+            // Of a key that occurs more than once, only the last member keeps its value.
+            match members.last_mut() {
+                Some(place) if last.is_some_and(|key| texts::order(key, member.key).is_eq()) => place.1 = member.value,
+                _ => members.push((Text::of(member.key)?, member.value)),
+            }
+            last = Some(member.key);
         }
-        let count = members.iter().filter(|member| member.value.has_strings()).count();
-        let values = self.members.drain(start..).map(|member| member.value).filter(Value::has_strings);
-        Ok(Value::Object(Map { values: exactly(count, values)?, keys: PhantomData }))
+        Ok(Value::Object(Map { members: members.into_boxed_slice(), keys: PhantomData }))
     }
 
     /// What is between the quote that is next and the one that ends its string.
@@ -268,17 +279,12 @@ fn is_out_of_range(text: &[u8]) -> bool {
     matches!(text.parse::<f64>(), Ok(number) if number.is_infinite())
 }
 
-/// Sorts members by their keys. Of a key that occurs more than once, only the last member keeps its value.
+/// Sorts members by their keys, those of one key as they are in the document.
 fn sort(members: &mut [Member<'_>]) {
     // Keys are parts of the document, so that their addresses are in its order.
     members.sort_unstable_by(|one, other| {
         texts::order(one.key, other.key).then(one.key.as_ptr().cmp(&other.key.as_ptr()))
     });
-    for place in 1..members.len() {
-        if texts::order(members[place - 1].key, members[place].key).is_eq() {
-            members[place - 1].value = Value::Null;
-        }
-    }
 }
 
 /// These items, of which there are so many, in memory for no more.

@@ -1,5 +1,5 @@
 use Rattle.lists.proofs.Known.{◌≡◌, waits, HasNoFeed, device_of, has_failed, TakesSoFar}
-use Rattle.lists.proofs.read.read_list.Given as goal
+use Rattle.lists.proofs.read.read_lines.Given as goal
 
 abbrev pub invariant-reads : goal.invariant-reads
 invariant-reads g l = record {

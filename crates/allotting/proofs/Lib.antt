@@ -1,0 +1,4 @@
+pub mod Known
+pub mod Pieces
+pub mod Runs
+pub mod Words

@@ -1,0 +1,179 @@
+//! Prints the free networks of pools.
+ghost use Rattle.std.specs.Prelude.{◌≡◌, ◌≤◌, ◌∷◌, length};
+ghost use Rattle.std.specs.List.{flat_map};
+ghost use Rattle.program.specs.Putting.{PutsOrFails};
+ghost use Rattle.cidr_merge.specs.FreeRuns.{EndsFree, EndsFinding, EndsFamily, are_of_both, is_v6};
+ghost use Rattle.cidr_merge.specs.FreeRuns.{others_if};
+ghost use Rattle.cidr_merge.specs.Pieces.{network_line};
+ghost use Rattle.cidr_merge.specs.Private.Printing.{WritesOrFails};
+
+use crate::command_line::FreeRequest;
+use crate::context::Context;
+use crate::cutting::put_network;
+use crate::help::PROGRAM;
+use crate::reading::{Sets, refuse_lists};
+use crate::reduce::is_any;
+use crate::run::read_sides;
+use crate::set_names::SetNames;
+use crate::split::status;
+use allotting::{FreeBlocks, free_blocks};
+use ipnetwork::{Address, Network};
+use ipnetwork_sets::AddressSet;
+use lines::fault::RunFault;
+use lines::output::Output;
+use lists::OpenLists;
+use program::ending::{FAILED, end};
+use program::messages::tell_of;
+use program::telling::{InLists, tell_refusals};
+use std::io::Write;
+
+/// The exit status if no network is free.
+const NONE_FREE: u8 = 1;
+
+/// Reads the pools and the lists of used addresses, prints free networks, and returns the exit
+/// status.
+pub(crate) fn free<L: OpenLists, W: Write, E: Write>(
+    request: FreeRequest,
+    context: &Context<'_, L>,
+    output: &mut Output<'_, W>,
+    errors: &mut Output<'_, E>,
+) -> u8
+    requires { request.merge.middle ≤ length context.now.names.now }
+    ensures { EndsFree (L.known context.now.lists.now) context.now.names.now
+        context.now.sets.now request output.old output.new result }
+{
+    let (pools, used, refusals, read) = read_sides(request.merge, context);
+    tell_refusals(PROGRAM, context.names, &InLists, &refusals, errors);
+    match read {
+        Ok(()) => {
+            let skips = !refusals.is_empty();
+            find_free(&request, context.sets, skips, &pools, &used, output, errors)
+        }
+        Err(fault) => refuse_lists(context.names, fault, errors),
+    }
+}
+
+// Prints the free networks of one family, unless lines were refused that are not to be skipped, or
+// the pools have both families.
+fn find_free<W: Write, E: Write>(
+    request: &FreeRequest,
+    names: &SetNames<'_>,
+    skips: bool,
+    pools: &Sets,
+    used: &Sets,
+    output: &mut Output<'_, W>,
+    errors: &mut Output<'_, E>,
+) -> u8
+    ensures { EndsFinding names.now request.now skips pools.now used.now output.old output.new
+        result }
+{
+    if skips && !request.merge.skips_bad {
+        return FAILED;
+    }
+    if are_of_both(request, pools) {
+        tell_of(PROGRAM, BOTH, errors);
+        return FAILED;
+    }
+    if is_v6(request, pools) {
+        print_free(request, names, skips, &pools.v6, &used.v6, output, errors)
+    } else {
+        print_free(request, names, skips, &pools.v4, &used.v4, output, errors)
+    }
+}
+
+// The message for pools of both families.
+const BOTH: &str = ": the FILEs before the -- have addresses of both families: ask for one each\n";
+
+// Whether the pools have networks of this length in both families.
+fn are_of_both(request: &FreeRequest, pools: &Sets) -> bool
+    ensures { result ≡ are_of_both request.now pools.now }
+{
+    request.length <= 32 && is_any(&pools.v4) && is_any(&pools.v6)
+}
+
+// Whether networks of IPv6 are looked for.
+fn is_v6(request: &FreeRequest, pools: &Sets) -> bool
+    ensures { result ≡ is_v6 request.now pools.now }
+{
+    request.length > 32 || !is_any(&pools.v4)
+}
+
+// Prints the free networks of a family, unless no address of it is used.
+fn print_free<A: Address, W: Write, E: Write>(
+    request: &FreeRequest,
+    names: &SetNames<'_>,
+    skips: bool,
+    pools: &AddressSet<Network<A>>,
+    used: &AddressSet<Network<A>>,
+    output: &mut Output<'_, W>,
+    errors: &mut Output<'_, E>,
+) -> u8
+    ensures { EndsFamily names.now A.family request.now skips pools.now used.now output.old
+        output.new result }
+{
+    if !is_any(used) && !request.merge.allows_empty {
+        tell_of(PROGRAM, NONE_USED, errors);
+        return FAILED;
+    }
+    let mut blocks = free_blocks(pools, used, request.length);
+    let Some(first) = blocks.next() else {
+        tell_of(PROGRAM, ": no network of this length is free\n", errors);
+        return NONE_FREE;
+    };
+    let written = write_free(names, request.all, first, blocks, output);
+    let status = status(skips);
+    end(PROGRAM, written, status, errors)
+}
+
+// The message if no address is used.
+const NONE_USED: &str = ": the FILEs after the -- have no address of the family of the pools: see \
+    --allow-empty\n";
+
+// Writes the first free network, and the others if all are asked for.
+fn write_free<A: Address, W: Write>(
+    names: &SetNames<'_>,
+    all: bool,
+    first: Network<A>,
+    others: FreeBlocks<'_, Network<A>>,
+    output: &mut Output<'_, W>,
+) -> Result<(), RunFault>
+    ensures { WritesOrFails result output.old output.new (flat_map
+        (network_line names.now A.family) (first ∷ others_if all others.entry)) }
+{
+    print_found(names, all, first, others, output)?;
+    output.finish()
+}
+
+// Prints the first free network, and the others if all are asked for.
+fn print_found<A: Address, W: Write>(
+    names: &SetNames<'_>,
+    all: bool,
+    first: Network<A>,
+    others: FreeBlocks<'_, Network<A>>,
+    output: &mut Output<'_, W>,
+) -> Result<(), RunFault>
+    ensures { PutsOrFails result output.old output.new (flat_map
+        (network_line names.now A.family) (first ∷ others_if all others.entry)) }
+{
+    put_network(names, first, output)?;
+    if !all {
+        return Ok(());
+    }
+    print_blocks(names, others, output)
+}
+
+// Prints the blocks still to come.
+#[tactic(auto, using(crate::proofs::Printed::printing))]
+fn print_blocks<A: Address, W: Write>(
+    names: &SetNames<'_>,
+    mut blocks: FreeBlocks<'_, Network<A>>,
+    output: &mut Output<'_, W>,
+) -> Result<(), RunFault>
+    ensures { PutsOrFails result output.old output.new
+        (flat_map (network_line names.now A.family) blocks.entry) }
+{
+    while let Some(block) = blocks.next() {
+        put_network(names, block, output)?;
+    }
+    Ok(())
+}

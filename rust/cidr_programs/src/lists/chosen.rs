@@ -1,0 +1,76 @@
+// Written by scripts/plain out of crates/lists/src/chosen.rt
+
+//! Which strings of JSON documents are taken.
+
+use fosibegan_core::plain_std::string::String;
+
+/// The names of fields: members of objects of JSON.
+///
+/// ```
+/// # use cidr_programs::in_examples::*;
+/// # ended(|| {
+/// let names = [String::from_str(Global, "ip_prefix")?];
+/// let fields = cidr_programs::lists::FieldNames::new(&names);
+/// assert!(fields.has("ip_prefix") && !fields.has("ip_prefixes") && !fields.has("ip"));
+/// # Ok(())
+/// # });
+/// ```
+#[derive(Debug)]
+pub struct FieldNames<'a> {
+    names: &'a [String],
+}
+
+impl<'a> FieldNames<'a> {
+    /// Creates the names of fields from texts.
+    ///
+    /// ```
+    /// # use cidr_programs::in_examples::*;
+    /// let fields = cidr_programs::lists::FieldNames::new(&[]);
+    /// assert!(!fields.has(""));
+    /// ```
+    pub fn new(names: &'a [String]) -> FieldNames<'a> {
+        FieldNames { names }
+    }
+
+    /// Returns whether a key is one of the names.
+    ///
+    /// ```
+    /// # use cidr_programs::in_examples::*;
+    /// # ended(|| {
+    /// let names = [String::from_str(Global, "cidr")?];
+    /// assert!(!cidr_programs::lists::FieldNames::new(&names).has("CIDR"));
+    /// # Ok(())
+    /// # });
+    /// ```
+    pub fn has(&self, key: &str) -> bool {
+        for name in self.names {
+            if name.as_str() == key {
+                return true;
+            }
+        }
+        false
+    }
+}
+
+/// Which strings of JSON documents are taken, and which of them are refused if they are no entry.
+///
+/// ```
+/// # use cidr_programs::in_examples::*;
+/// # ended(|| {
+/// use cidr_programs::lists::{FieldNames, Strings};
+///
+/// let names = [String::from_str(Global, "ip_prefix")?];
+/// let strings = Strings::OfFields(FieldNames::new(&names));
+/// assert!(matches!(strings, Strings::OfFields(_)));
+/// # Ok(())
+/// # });
+/// ```
+#[derive(Debug)]
+pub enum Strings<'a> {
+    /// All, of which those that look like an entry have to be one.
+    LookingLikeEntries,
+    /// All, each of which has to be an entry.
+    All,
+    /// Those of fields with one of these names, each of which has to be an entry.
+    OfFields(FieldNames<'a>),
+}
