@@ -49,9 +49,22 @@ def some_line(dice):
     return dice.choice(("", " ")) + text + behind, False if behind == SECOND else ends
 
 
-def has(ends, address):
-    """Whether an entry with these ends has an address."""
-    return ends[0].version == address.version and ends[0] <= address <= ends[1]
+def some_sought(dice):
+    """The text of an address or of a network without host bits, and its network."""
+    address = some_address(dice)
+    if dice.randrange(2):
+        return str(address), ipaddress.ip_network(address)
+    net = ipaddress.ip_network(f"{address}/{dice.randrange(address.max_prefixlen + 1)}", strict=False)
+    return str(net), net
+
+
+def told(ends, text, net):
+    """What is told of an entry with these ends for the text of a network: nothing if they share no address."""
+    if ends[0].version != net.version or ends[1] < net[0] or net[-1] < ends[0]:
+        return None
+    if ends[0] <= net[0] and net[-1] <= ends[1]:
+        return f"has all of {text}" if "/" in text else f"has {text}"
+    return f"{'lies in' if net[0] <= ends[0] and ends[1] <= net[-1] else 'meets'} {text}"
 
 
 def cause(line):
@@ -65,10 +78,10 @@ def cause(line):
 
 
 def finds(program, folder):
-    """Made-up lists that are searched for made-up addresses, of words and of a file."""
+    """Made-up lists that are searched for made-up addresses and networks, of words and of a file."""
     for seed in range(200):
         dice = random.Random(seed)
-        sought = [some_address(dice) for _ in range(dice.choice((dice.randrange(1, 6), dice.randrange(1, 300))))]
+        sought = [some_sought(dice) for _ in range(dice.choice((dice.randrange(1, 6), dice.randrange(1, 300))))]
         output = error = ""
         names = ["one", "two", "three"][: dice.randrange(1, 4)]
         for name in names:
@@ -79,11 +92,12 @@ def finds(program, folder):
                 if ends is False:
                     error += f"{name}:{number}: refused {cause(line)}: {line}\n"
                 elif ends:
-                    output += "".join(f"{name}:{number}: has {address}: {line}\n" for address in sought if has(ends, address))
+                    words = [told(ends, *one) for one in sought]
+                    output += "".join(f"{name}:{number}: {word}: {line}\n" for word in words if word)
         cut = dice.randrange(len(sought) + 1)
         with open(os.path.join(folder, "sought"), "w") as file:
-            file.write("".join(f"{address}\n" for address in sought[cut:]))
-        words = ["find", *map(str, sought[:cut]), *(["--from", "sought"] if cut < len(sought) else []), "--", *names]
+            file.write("".join(f"{text}\n" for text, _ in sought[cut:]))
+        words = ["find", *(text for text, _ in sought[:cut]), *(["--from", "sought"] if cut < len(sought) else []), "--", *names]
         status = 2 if error else 0 if output else 1
         yield f"find, seed {seed}", run(program, words, folder), (status, output.encode(), error.encode())
 
@@ -99,9 +113,16 @@ def with_many_each(count):
     return ["10.0.0.0/25"] * count, [f"10.{n >> 16}.{n >> 8 & 255}.{n & 255}" for n in range(63, 63 + 10 * count)], 65
 
 
+def nested(count):
+    """So many addresses, each in 17 of networks of /1 to /32 that are nested, and as many others of these, many times, which
+    begin before the addresses and end before them too."""
+    chain = [str(ipaddress.ip_network((0xAAAAAAAA, length), strict=False)) for length in range(1, 33)]
+    return [f"170.170.255.{n % 256}" for n in range(count)], chain[:17] + chain[17:] * (count // 15), 17
+
+
 def growth(program, folder):
-    """A search takes time in proportion to entries and addresses and to what it prints, not to entries times addresses."""
-    for make, least in ((in_one_block, 3125), (with_many_each, 250)):
+    """A search takes time in proportion to entries and networks and to what it prints, not to entries times networks."""
+    for make, least in ((in_one_block, 3125), (with_many_each, 250), (nested, 3125)):
         for size in (least, limits.GROWTH * least):
             nets, addresses, each = make(size)
             for name, lines in (("nets", nets), ("addresses", addresses)):

@@ -12,7 +12,7 @@ from cidr_merge_splits import least, run
 USAGE = b"\nusage: "
 REFUSED = b"used:2: refused address: x\n"
 NONE_FREE = b"no network of this length is free\n"
-BOTH = b"the FILEs before the -- have addresses of both families: ask for one each\n"
+BOTH = b"the FILEs before the -- have addresses of both families: see -4 and -6\n"
 NONE_USED = b"the FILEs after the -- have no address of the family of the pools: see --allow-empty\n"
 
 

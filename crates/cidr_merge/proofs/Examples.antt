@@ -27,7 +27,7 @@ ten = record { address = 167772160; prefix = 8 }
 
 -- `[` before each line, and `;` after it
 abbrev pub around : Names
-around = record { table = []; set = []; limit = []; before = codes "["; after = codes ";"; fields = [] }
+around = record { only = None; table = []; set = []; limit = []; before = codes "["; after = codes ";"; fields = [] }
 
 pub block_of_a_union : block_line usual_names Union v4_family
     (record { side = First; part = ten }) ≡ codes "10.0.0.0/8\n"
@@ -186,15 +186,15 @@ no_files = (refl, refl)
 -- the options that each task takes, by their rows: `--prefix` is row 10, `--from` 11, `-e` 12, `--most` 13, `--maxelem`
 -- 14, `--ipv4` 15, `--ipv6` 16, `--max-others` 17, `--allow-empty` 18, `--at-least` 19, `--max-change` 20, `--json-field` 21,
 -- `--whole` 22, `--masks` 23, `--all` 24; rows 25 to 27 are `--help`, `--version` and `--quiet`
-pub options_of_tasks : map (λ task. filter (takes task) (range_with_len 0 28)) (tasks.Merge Union ∷ tasks.Merge Differ
+pub options_of_tasks : map (λ task. filter (takes task) (range_with_len 0 30)) (tasks.Merge Union ∷ tasks.Merge Differ
     ∷ tasks.List ∷ tasks.Split ∷ tasks.Reduce ∷ tasks.Check ∷ tasks.Overlaps ∷ tasks.Find ∷ tasks.Free ∷ [])
-    ≡ (range_with_len 0 10 ++ 12 ∷ 14 ∷ 18 ∷ 19 ∷ 21 ∷ 22 ∷ 23 ∷ [])
-    ∷ (range_with_len 0 10 ++ 12 ∷ 14 ∷ 18 ∷ 19 ∷ 20 ∷ 21 ∷ 22 ∷ 23 ∷ [])
-    ∷ (range_with_len 0 10 ++ 12 ∷ 14 ∷ 18 ∷ 19 ∷ 21 ∷ 22 ∷ 23 ∷ [])
-    ∷ (3 ∷ 4 ∷ 5 ∷ 8 ∷ 9 ∷ 10 ∷ 12 ∷ 19 ∷ 21 ∷ 22 ∷ 23 ∷ [])
-    ∷ (range_with_len 0 10 ++ range_with_len 12 8 ++ 21 ∷ 22 ∷ 23 ∷ [])
+    ≡ (range_with_len 0 10 ++ 12 ∷ 14 ∷ 18 ∷ 19 ∷ 21 ∷ 22 ∷ 23 ∷ 25 ∷ 26 ∷ [])
+    ∷ (range_with_len 0 10 ++ 12 ∷ 14 ∷ 18 ∷ 19 ∷ 20 ∷ 21 ∷ 22 ∷ 23 ∷ 25 ∷ 26 ∷ [])
+    ∷ (range_with_len 0 10 ++ 12 ∷ 14 ∷ 18 ∷ 19 ∷ 21 ∷ 22 ∷ 23 ∷ 25 ∷ 26 ∷ [])
+    ∷ (3 ∷ 4 ∷ 5 ∷ 8 ∷ 9 ∷ 10 ∷ 12 ∷ 19 ∷ 21 ∷ 22 ∷ 23 ∷ 25 ∷ 26 ∷ [])
+    ∷ (range_with_len 0 10 ++ range_with_len 12 8 ++ 21 ∷ 22 ∷ 23 ∷ 25 ∷ 26 ∷ [])
     ∷ (5 ∷ 12 ∷ []) ∷ (12 ∷ []) ∷ (11 ∷ 12 ∷ [])
-    ∷ (3 ∷ 4 ∷ 5 ∷ 8 ∷ 9 ∷ 10 ∷ 12 ∷ 18 ∷ 21 ∷ 22 ∷ 23 ∷ 24 ∷ []) ∷ []
+    ∷ (3 ∷ 4 ∷ 5 ∷ 8 ∷ 9 ∷ 10 ∷ 12 ∷ 18 ∷ 21 ∷ 22 ∷ 23 ∷ 24 ∷ 25 ∷ 26 ∷ []) ∷ []
 options_of_tasks = refl
 
 -- of all bytes, those that a set's name may begin with, and those that it may have after its first

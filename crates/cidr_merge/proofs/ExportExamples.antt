@@ -1,5 +1,7 @@
 -- Whole exports of small lists. Each of these computes.
 use Rattle.cidr_merge.proofs.Words.{◌≡◌, ℕ, List, [], ◌∷◌, ◌++◌, true, false, map, refl, digits, Network, count_up, export_text, Names, usual_names, is_set_name, is_limit, Netmask, Wildcard, Csv, Nft, Ipset, Json, Addresses}
+use Rattle.std.specs.Prelude.{None, Some}
+use Rattle.cidr_merge.specs.declared.exports.Version.TheVariants.{V4, V6}
 use Rattle.std.proofs.Common.{codes}
 use Rattle.cidr_merge.proofs.Examples.{ten}
 
@@ -27,6 +29,7 @@ values = (refl, refl)
 -- the input for `nft -f`, and that for `ipset restore` with the block of all IPv6 addresses
 abbrev blocked : Names
 blocked = record {
+  only = None;
   table = codes "fw";
   set = codes "blocked";
   limit = codes "65536";
@@ -59,6 +62,33 @@ pub sets : (export_text blocked Nft (ten ∷ one ∷ []) []
     ++ codes "destroy blocked_ipv4_new\ndestroy blocked_ipv6_new\n")
 unfolding digits
 sets = (refl, refl, refl)
+
+-- one family alone: the set of the other is in no line
+abbrev of_v4 : Names
+of_v4 = record blocked { only = Some V4 }
+
+abbrev of_v6 : Names
+of_v6 = record blocked { only = Some V6 }
+
+pub sets_of_one_family : (export_text of_v4 Nft (one ∷ []) []
+    ≡ codes "add table inet fw\n"
+    ++ codes "add set inet fw blocked_ipv4 { type ipv4_addr; flags interval; }\nflush set inet fw blocked_ipv4\n"
+    ++ codes "add element inet fw blocked_ipv4 {\n\t192.0.2.7/32\n}\n")
+    × (export_text of_v6 Nft [] []
+    ≡ codes "add table inet fw\n"
+    ++ codes "add set inet fw blocked_ipv6 { type ipv6_addr; flags interval; }\nflush set inet fw blocked_ipv6\n")
+    × (export_text of_v4 Ipset (one ∷ []) []
+    ≡ codes "create blocked_ipv4 hash:net family inet maxelem 65536 -exist\n"
+    ++ codes "create blocked_ipv4_new hash:net family inet maxelem 65536 -exist\n"
+    ++ codes "flush blocked_ipv4_new\nadd blocked_ipv4_new 192.0.2.7/32\n"
+    ++ codes "swap blocked_ipv4_new blocked_ipv4\ndestroy blocked_ipv4_new\n")
+    × (export_text of_v6 Ipset [] (half ∷ [])
+    ≡ codes "create blocked_ipv6 hash:net family inet6 maxelem 65536 -exist\n"
+    ++ codes "create blocked_ipv6_new hash:net family inet6 maxelem 65536 -exist\n"
+    ++ codes "flush blocked_ipv6_new\nadd blocked_ipv6_new ::/1\n"
+    ++ codes "swap blocked_ipv6_new blocked_ipv6\ndestroy blocked_ipv6_new\n")
+unfolding digits
+sets_of_one_family = (refl, refl, refl, refl)
 
 -- names of 1 and of 22 bytes are valid; one of 23 bytes and others are not
 abbrev twenty_two : List ℕ

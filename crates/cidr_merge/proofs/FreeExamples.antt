@@ -1,5 +1,5 @@
 -- Requests and pools at which a wrong family, or wrong networks that are printed, would show. Each of these computes.
-use Rattle.cidr_merge.proofs.Words.{◌≡◌, ℕ, Bool, ◌∷◌, [], true, false, refl, map, Minus, Blocks}
+use Rattle.cidr_merge.proofs.Words.{◌≡◌, ℕ, ◌∷◌, [], true, false, refl, map, Minus, Blocks}
 use Rattle.cidr_merge.proofs.Examples.{none, one, one6, plain_merge, ten}
 use Rattle.cidr_merge.specs.FreeRuns.{are_of_both, is_v6, others_if}
 use Rattle.cidr_merge.specs.declared.command_line.FreeRequest.{FreeRequest}

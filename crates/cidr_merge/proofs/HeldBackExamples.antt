@@ -1,8 +1,7 @@
 -- Requests and lists at which a wrong bound on the number of networks would show. Each of these computes.
-use Rattle.cidr_merge.proofs.Words.{◌≡◌, ℕ, Bool, ◌∷◌, [], true, false, refl, map, Request, Operation, Union, Differ, Blocks, Counts, Exported, Nft, Ipset, Json, Addresses, Any, lenient, least_number, lacks_networks}
+use Rattle.cidr_merge.proofs.Words.{◌≡◌, ℕ, Bool, ◌∷◌, [], true, false, refl, map, Request, Union, Blocks, Counts, Exported, Nft, Ipset, Json, Addresses, Any, lenient, least_number, lacks_networks}
 use Rattle.cidr_merge.proofs.Examples.{none, one, one6, plain_merge, ten}
 use Rattle.cidr_merge.specs.declared.command_line.Form.{Form}
-use Rattle.cidr_merge.specs.declared.reading.Sets.{Sets}
 use Rattle.cidr_merge.specs.declared.shapes.Shape.TheVariants as shapes
 
 -- a form that fills sets needs a network, and no other does

@@ -4,6 +4,7 @@ pub mod Cuts
 pub mod Examples
 pub mod ExportExamples
 pub mod ExportTexts
+pub mod FindExamples
 pub mod Found
 pub mod FreeEnds
 pub mod FreeExamples
@@ -20,6 +21,7 @@ pub mod OverlapPairs
 pub mod Passed
 pub mod Percents
 pub mod Places
+pub mod PlacesFound
 pub mod Printed
 pub mod Putting
 pub mod ReadInTurn

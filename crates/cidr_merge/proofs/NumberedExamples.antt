@@ -1,5 +1,5 @@
 -- Lists at which a wrong definition of their lines would show. Each of these computes.
-use Rattle.cidr_merge.proofs.Words.{◌≡◌, ◌∷◌, ℕ, List, [], true, false, map, refl, digits, codes, None, Some, Ok, Err, v6_of, gap_below, V4, V6, Range, has, NumberedLine, is_range, numbered_lines, said_by}
+use Rattle.cidr_merge.proofs.Words.{◌≡◌, ◌∷◌, ℕ, List, [], true, false, map, refl, digits, codes, None, Some, Ok, Err, v6_of, gap_below, V4, V6, Range, NumberedLine, is_range, numbered_lines, said_by}
 use Rattle.ipnetwork.specs.declared.ip_network.IpNetwork.TheVariants as networks
 use Rattle.lists.specs.declared.entry.Entry.TheVariants.{Network}
 use Rattle.lists.specs.declared.entry.EntryFault.TheVariants as causes
@@ -49,9 +49,3 @@ pub ranges_of_addresses :
     × (is_range (V4 0) (V6 0) ≡ false) × (is_range (V6 0) (V4 0) ≡ false)
     × (is_range (V6 0) (V6 1) ≡ true)
 ranges_of_addresses = (refl, refl, refl, refl, refl)
-
--- a range has both its ends, but not the address after it, nor an address of the other family with a number in it
-pub what_entries_have :
-    map (has (Range (V4 5) (V4 7))) (V4 4 ∷ V4 5 ∷ V4 7 ∷ V4 8 ∷ V6 6 ∷ [])
-    ≡ false ∷ true ∷ true ∷ false ∷ false ∷ []
-what_entries_have = refl

@@ -1,5 +1,6 @@
 -- Lists that are read in turn.
-use Rattle.cidr_merge.proofs.Words.{◌≡◌, ◌<◌, ◌+◌, ◌++◌, ◌∷◌, [], ℕ, List, false, refl, sym, subst, arith, length, get_or, take, length-take, Result, Ok, Err, OnOk, String, string_bytes, IsAggregate, ReadLists, nothing_read, Refused, Source, ReadsOne, ReadsLists, ReadsSide, Sets, rules_of}
+use Rattle.cidr_merge.proofs.Words.{◌≡◌, ◌<◌, ◌+◌, ◌++◌, ◌∷◌, [], ℕ, List, false, refl, sym, subst, arith, length, get_or, take, length-take, Option, Result, Ok, Err, OnOk, String, string_bytes, IsAggregate, ReadLists, nothing_read, Refused, Source, ReadsOne, ReadsLists, ReadsSide, Sets, Version, looked_at, rules_of}
+use Rattle.cidr_merge.specs.declared.exports.Version.TheVariants as versions
 use Rattle.cidr_merge.proofs.Places.{up_to_next}
 
 -- one more list was read
@@ -32,18 +33,19 @@ reads_on known names first place name before mid after l is h r =
     (omega (arith, l, length-take place names)) h r)
 
 -- the sets of what was read
-pub side_ok : {Z T E : Type 0} (result : Result T E) (known : Source) (number : ℕ)
+pub side_ok : {Z T E : Type 0} (result : Result T E) (known : Source) (looked only : Option Version) (number : ℕ)
     (names : List (String Z)) (before after : Refused) (start read : ReadLists) (sets : Sets)
     → start ≡ nothing_read (rules_of known.shape) before → OnOk result (ReadsLists known number names start read)
-    → OnOk result (read.is_out_of_memory ≡ false) → IsAggregate 32 read.v4 sets.v4
-    → IsAggregate 128 read.v6 sets.v6 → after ≡ read.refused
-    → OnOk result (ReadsSide known number names before sets after)
-side_ok (Ok done) known number names before after start read sets e h m v4 v6 r = record {
+    → OnOk result (read.is_out_of_memory ≡ false) → looked ≡ only
+    → IsAggregate 32 (looked_at looked versions.V4 read.v4) sets.v4
+    → IsAggregate 128 (looked_at looked versions.V6 read.v6) sets.v6 → after ≡ read.refused
+    → OnOk result (ReadsSide known only number names before sets after)
+side_ok (Ok done) known looked only number names before after start read sets e h m is v4 v6 r = record {
   read = read;
   lists = subst (λ (s : ReadLists). ReadsLists known number names s read) e h;
   memory = m;
-  v4 = v4;
-  v6 = v6;
+  v4 = subst (λ (o : Option Version). IsAggregate 32 (looked_at o versions.V4 read.v4) sets.v4) is v4;
+  v6 = subst (λ (o : Option Version). IsAggregate 128 (looked_at o versions.V6 read.v6) sets.v6) is v6;
   refused_lines = sym r;
 }
-side_ok (Err fault) known number names before after start read sets e h m v4 v6 r = tt
+side_ok (Err fault) known looked only number names before after start read sets e h m is v4 v6 r = tt

@@ -1,5 +1,5 @@
 -- How a run ends that searches lists.
-use Rattle.cidr_merge.proofs.Words.{◌≡◌, ◌==◌, ◌||◌, ◌∙◌, ◌++◌, ℕ, Bool, true, false, not, List, ap, refl, ◌+◌, ◌≤◌, arith, subst, inr, length, length-take, map, take, drop, drop-map, length-drop, take-map, if◌then◌else◌, Result, OnOk, OnErr, IsTrue, IsFalse, AppendsBeginning, is_err, String, Appends, Written, RunFault, IpAddr, KnownLists, status_of, has_refused, lists_matches, EndsSearching, EndsReadingAll, with_addresses, TellsFound, has_other, lists_sought, AreTexts}
+use Rattle.cidr_merge.proofs.Words.{◌≡◌, ◌==◌, ◌||◌, ◌∙◌, ◌++◌, ℕ, Bool, true, false, not, List, ap, refl, ◌+◌, ◌≤◌, arith, subst, inr, length, length-take, map, take, drop, drop-map, length-drop, take-map, if◌then◌else◌, Result, OnOk, OnErr, IsTrue, IsFalse, AppendsBeginning, is_err, String, Appends, Written, RunFault, IpNetwork, KnownLists, status_of, has_refused, lists_matches, EndsSearching, EndsReadingAll, with_networks, TellsFound, has_other, lists_sought, AreTexts}
 use Rattle.cidr_merge.proofs.Inspected.{all_written}
 use Rattle.cidr_merge.proofs.WholeLists.{as_many_held}
 
@@ -8,7 +8,7 @@ status_by : (told none printed : Bool) → printed ≡ not none
 status_by told true printed e = rw e refl
 status_by told false printed e = rw e refl
 
-pub search_ended : {Z W T : Type 0} (sought : List (List ℕ × IpAddr)) (others : Bool) (names : List (String Z))
+pub search_ended : {Z W T : Type 0} (sought : List (List ℕ × IpNetwork)) (others : Bool) (names : List (String Z))
     (texts : List (List ℕ)) (old mid new : Written W) (written : Result T RunFault) (is_printed is_told : Bool)
     (status result : ℕ) → TellsFound (lists_matches sought names texts) old mid is_printed
     → is_told ≡ (others || has_refused texts) → status ≡ (if is_told then 2 else (if is_printed then 0 else 1))
@@ -44,11 +44,11 @@ module _ {Z X : Type 0} (known : KnownLists) (words names : List (String Z)) (mi
   as_many_lists = let t = length-drop from held in let m = length-drop from names in omega (arith, t, m, many)
 
   -- all lists were read
-  pub searched : {W : Type 0} (addresses : List IpAddr) (old new : Written W) (status : ℕ)
-      → EndsSearching (with_addresses (take middle words) addresses ++ lists_sought (map items (take from held)))
+  pub searched : {W : Type 0} (networks : List IpNetwork) (old new : Written W) (status : ℕ)
+      → EndsSearching (with_networks (take middle words) networks ++ lists_sought (map items (take from held)))
       (has_other (map items (take from held))) (drop from names) (map items (drop from held)) old new status
-      → EndsReadingAll known words middle from addresses old new status
-  searched addresses old new status h =
+      → EndsReadingAll known words middle from networks old new status
+  searched networks old new status h =
       inr (inr (
         map items texts,
         subst (λ ns. AreTexts known ns (map items texts)) n are,

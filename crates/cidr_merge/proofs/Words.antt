@@ -4,11 +4,12 @@ pub use Rattle.cidr_merge.specs.Answers.{AreBoth, AreCountLines, AreCounts, AreC
 pub use Rattle.cidr_merge.specs.Bounds.{allows, bound_in, large_number}
 pub use Rattle.cidr_merge.specs.CommandLines.{command_of, sets_of, told_of}
 pub use Rattle.cidr_merge.specs.Endings.{EndsAsked, EndsBy}
-pub use Rattle.cidr_merge.specs.Exports.{address_line, closing, element, export_text, family_name, family_text, following, frame_text, is_any, listed}
+pub use Rattle.cidr_merge.specs.Exports.{address_line, closing, element, export_text, family_name, family_text, following, frame_text, ipset_foot, ipset_head, is_any, listed}
+pub use Rattle.cidr_merge.specs.Families.{looked_at}
 pub use Rattle.cidr_merge.specs.FindRuns.{EndsReadingAll, EndsSearching, search_status}
-pub use Rattle.cidr_merge.specs.FindWords.{AreAddresses, HasNoAddress, with_addresses}
+pub use Rattle.cidr_merge.specs.FindWords.{AreNetworks, HasWrongWord, with_networks}
 pub use Rattle.cidr_merge.specs.Findings.{IsFound, findings_by, has_host_bits, host_findings, line_findings, lists_findings, place_text}
-pub use Rattle.cidr_merge.specs.Finds.{has, has_refused, has_text, is_refused, line_matches, lists_matches, match_lines, matches_by}
+pub use Rattle.cidr_merge.specs.Finds.{has_refused, is_refused, line_matches, lists_matches, match_lines, matches_by, do_meet, has_words, lines_by, relation_text}
 pub use Rattle.cidr_merge.specs.FieldNames.{fields_of}
 pub use Rattle.cidr_merge.specs.Forms.{form_called, form_of, most_in, prefix_in, shape_of}
 pub use Rattle.cidr_merge.specs.FreeRuns.{EndsPrinting, others_if}
@@ -21,10 +22,11 @@ pub use Rattle.cidr_merge.specs.Overlaps.{IsInOrder, Listed, ends_of, is_up_to, 
 pub use Rattle.cidr_merge.specs.Pieces.{network_line, pieces, pieces_text}
 pub use Rattle.cidr_merge.specs.Private.Entries.{KeepsReaching, address_of, listed_as, overlaps}
 pub use Rattle.cidr_merge.specs.Private.LinesLeft.{lines_left, sought_as, sought_in}
+pub use Rattle.cidr_merge.specs.Private.PlacesFound.{AreUpTo, EndBy, HaveReaching}
 pub use Rattle.cidr_merge.specs.Private.Printing.{PutsSome, WritesOrFails}
 pub use Rattle.cidr_merge.specs.Private.ReadErrors.{not_read}
 pub use Rattle.cidr_merge.specs.Private.Reported.{TellsFound}
-pub use Rattle.cidr_merge.specs.Private.SoughtPlaces.{AreAscending, AreFound, ArePartOf, ArePlacesOf, is_v6, number_of}
+pub use Rattle.cidr_merge.specs.Private.SoughtPlaces.{AreAscending, AreFound, AreOuters, ArePlacesOf, Place, is_v6, number_of, place_of}
 pub use Rattle.cidr_merge.specs.Private.Sweeps.{blocks_left, left_of_second, with_head}
 pub use Rattle.cidr_merge.specs.Private.Totals.{AddUp}
 pub use Rattle.cidr_merge.specs.Reading.{ReadsLists, ReadsSide, ReadsSides}
@@ -35,7 +37,7 @@ pub use Rattle.cidr_merge.specs.Runs.{answer_status}
 pub use Rattle.cidr_merge.specs.SetNames.{Names, is_limit, is_set_name, line_of, usual_names}
 pub use Rattle.cidr_merge.specs.Shapes.{ReadsFile, ReadsOne, Source, StopsBy, StopsFile, StopsOne, source, rules_of, strings_in}
 pub use Rattle.cidr_merge.specs.Sides.{before_dashes, behind_dashes}
-pub use Rattle.cidr_merge.specs.SoughtLines.{has_other, line_is_other, line_sought, lists_sought}
+pub use Rattle.cidr_merge.specs.SoughtLines.{has_other, line_is_other, line_sought, lists_sought, network_in}
 pub use Rattle.cidr_merge.specs.Spelling.{spelled_out}
 pub use Rattle.cidr_merge.specs.Splits.{lacks_networks}
 pub use Rattle.cidr_merge.specs.Stopping.{Stops, StopsInSides}
@@ -51,12 +53,14 @@ pub use Rattle.cidr_merge.specs.declared.command_line.ReduceRequest.{ReduceReque
 pub use Rattle.cidr_merge.specs.declared.command_line.Request.{Request}
 pub use Rattle.cidr_merge.specs.declared.exports.Export.TheVariants.{Addresses, Csv, Ipset, Json, Netmask, Nft, Wildcard}
 pub use Rattle.cidr_merge.specs.declared.exports.Frame.TheVariants.{FamilyFoot, FamilyHead, Foot, Head, Opening}
+pub use Rattle.cidr_merge.specs.declared.exports.Version.{Version}
 pub use Rattle.cidr_merge.specs.declared.help.TheConstants.{HELP, VERSION}
 pub use Rattle.cidr_merge.specs.declared.merge_join.Side.TheVariants.{First, Second}
 pub use Rattle.cidr_merge.specs.declared.placed.Placed.{Placed}
 pub use Rattle.cidr_merge.specs.declared.reading.Sets.{Sets}
 pub use Rattle.cidr_merge.specs.declared.shapes.Shape.{Shape}
 pub use Rattle.cidr_merge.specs.declared.sought.Sought.{Sought}
+pub use Rattle.cidr_merge.specs.declared.sought_places.Places.{Places}
 pub use Rattle.cidr_merge.specs.declared.tasks.Task.{Task}
 pub use Rattle.ipnetwork.specs.Computed.IpNetworkText.{ip_network_of}
 pub use Rattle.ipnetwork.specs.IpNetworkText.{NamesIpNetwork, ReadsIpNetwork}
@@ -129,8 +133,8 @@ pub use Rattle.std.proofs.Math.Pow.{pow_mono}
 pub use Rattle.std.proofs.Math.Seq.{drop-length, drop-nil, take-append_seam, take-length}
 pub use Rattle.std.proofs.lemmas.Bool.{and_from, cases_lt, eqb-true, le-leb, le-ltb, leb-true, lt-ltb, ltb-true, ne_eqb, true≢false}
 pub use Rattle.std.proofs.lemmas.Grind.{flat_map-append}
-pub use Rattle.std.proofs.lemmas.List.{at_drop_more, drop-drop, drop-map, drop-set-lt, get_or-drop, get_or-map, get_or-take, get_or_default, length-append, length-drop, length-map, length-set, map-append, map_push, take-append-drop, take-map, take-set, take-set-le, take_more, take_more_set, take_rest}
-pub use Rattle.std.proofs.lemmas.List.Elements.{All-drop, All-map, All-take, filter-append}
+pub use Rattle.std.proofs.lemmas.List.{at_drop_more, drop-drop, drop-map, drop-set-lt, get_or-drop, get_or-map, get_or-take, get_or_append_left, get_or_default, get_or_push, length-append, length-drop, length-map, length-set, map-append, map_push, take-append-drop, take-map, take-set, take-set-le, take_more, take_more_set, take_rest}
+pub use Rattle.std.proofs.lemmas.List.Elements.{All-append, All-drop, All-map, All-push, All-take, Contains-append_left, Contains-append_right, filter-append}
 pub use Rattle.std.proofs.lemmas.List.Filters.{FiltersInPlace, FiltersInPlace-more_no, FiltersInPlace-more_swap}
 pub use Rattle.std.proofs.lemmas.List.Folds.{concat-append}
 pub use Rattle.std.proofs.lemmas.List.Sorted.{All-permutation, Contains-permutation, IsNonDecreasingBy-drop, IsNonDecreasingBy-from_all_adjacent, IsNonDecreasingBy-from_sort, IsPartitionPoint-from_clause, IsPermutation-map, length_permutation}
@@ -150,4 +154,4 @@ pub use Rattle.std.specs.Result.{is_ok}
 pub use Rattle.std.specs.Str.Lines.{lines, strip_carriage_return}
 pub use Rattle.std.specs.String.{string_bytes}
 pub use Rattle.std.specs.declared.cmp.Ordering.{Ordering}
-pub use Rattle.std.specs.declared.cmp.Ordering.TheVariants.{Equal, Less}
+pub use Rattle.std.specs.declared.cmp.Ordering.TheVariants.{Equal, Greater, Less}

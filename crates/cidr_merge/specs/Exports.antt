@@ -1,9 +1,10 @@
 -- The forms that other programs read: the texts before, between and after the blocks, and how each block is written.
-use Rattle.std.specs.Prelude.{ℕ, ◌-◌, ◌==◌, Bool, true, false, List, [], ◌∷◌, ◌++◌, if◌then◌else◌}
+use Rattle.std.specs.Prelude.{ℕ, ◌-◌, ◌==◌, Bool, true, false, List, [], ◌∷◌, ◌++◌, Option, None, Some, if◌then◌else◌}
 use Rattle.std.specs.Prelude.{codes}
 use Rattle.std.specs.List.{concat, flat_map}
 use Rattle.ipnetwork_family.specs.Network.{Network, block_size, mask_of, low, high, members}
 use Rattle.ipnetwork_family.specs.Family.{Family, text_of, v4_family, v6_family}
+use Rattle.cidr_merge.specs.Families.{looks_at}
 use Rattle.cidr_merge.specs.SetNames.{Names, line_of}
 use Rattle.cidr_merge.specs.declared.exports.Export.{Export}
 use Rattle.cidr_merge.specs.declared.exports.Export.TheVariants.{Netmask, Wildcard, Csv, Nft, Ipset}
@@ -22,12 +23,56 @@ abbrev pub address_type : Version → List ℕ
 address_type V4 = codes "ipv4_addr"
 address_type V6 = codes "ipv6_addr"
 
+abbrev pub inet_word : Version → List ℕ
+inet_word V4 = codes "inet"
+inet_word V6 = codes "inet6"
+
+-- texts of a family; none if the family is not looked at
+abbrev pub if_looked_at : Names → Version → List (List ℕ) → List ℕ
+if_looked_at names version texts = if looks_at names.only version then concat texts else []
+
+-- the lines for ipset that create the set of a family and a new one, unless they exist, that put the new one in the
+-- place of the old, and that destroy it
+abbrev pub created_texts : List ℕ → List ℕ → List ℕ → List ℕ → List (List ℕ)
+created_texts set word inet limit =
+    codes "create " ∷ set ∷ word ∷ codes " hash:net family " ∷ inet ∷ codes " maxelem " ∷ limit
+    ∷ codes " -exist\ncreate " ∷ set ∷ word ∷ codes "_new hash:net family " ∷ inet ∷ codes " maxelem " ∷ limit
+    ∷ codes " -exist\n" ∷ []
+
+abbrev pub created : Names → Version → List (List ℕ)
+created names version = created_texts names.set (family_word version) (inet_word version) names.limit
+
+abbrev pub swapped : Names → Version → List (List ℕ)
+swapped names version =
+    codes "swap " ∷ names.set ∷ family_word version ∷ codes "_new " ∷ names.set ∷ family_word version ∷ codes "\n" ∷ []
+
+abbrev pub destroyed : Names → Version → List (List ℕ)
+destroyed names version = codes "destroy " ∷ names.set ∷ family_word version ∷ codes "_new\n" ∷ []
+
+-- the lines for ipset before and after all others, for a family alone or for both
+abbrev pub ipset_head : Names → Option Version → List (List ℕ)
+ipset_head names (Some version) = created names version
+ipset_head names None = created names V4 ++ created names V6
+
+abbrev pub ipset_foot : Names → Option Version → List (List ℕ)
+ipset_foot names (Some version) = swapped names version ++ destroyed names version
+ipset_foot names None = swapped names V6 ++ swapped names V4 ++ destroyed names V4 ++ destroyed names V6
+
+-- the lines that create a set of nftables, unless it exists, and empty it; and the line that empties a new set of ipset
+abbrev pub nft_set : Names → Version → List (List ℕ)
+nft_set names version =
+    codes "add set inet " ∷ names.table ∷ codes " " ∷ names.set ∷ family_word version ∷ codes " { type "
+    ∷ address_type version ∷ codes "; flags interval; }\nflush set inet " ∷ names.table ∷ codes " " ∷ names.set
+    ∷ family_word version ∷ codes "\n" ∷ []
+
+abbrev pub flushed : Names → Version → List (List ℕ)
+flushed names version = codes "flush " ∷ names.set ∷ family_word version ∷ codes "_new\n" ∷ []
+
 -- the text at a place around the blocks; empty in all cases not listed. For nftables, it creates the table and the sets
 -- if they do not exist, and flushes the sets before elements are added. For ipset, it creates the sets of both families
 -- if they do not exist, and new sets, which replace the old ones once both are filled, that of IPv6 first: ipset does
--- not
--- see before the swap that a set without `family inet6` has its name. An `Opening` has `true` if blocks
--- of the other family come before it
+-- not see before the swap that a set without `family inet6` has its name. The set of a family that is not looked at is
+-- in none of these lines. An `Opening` has `true` if blocks of the other family come before it
 abbrev pub frame_text : Names → Export → Frame → List ℕ
 frame_text names Csv Head = codes "family,network,first,last\n"
 frame_text names Json Head = codes "["
@@ -35,24 +80,12 @@ frame_text names Json (Opening version true) = codes ",\n"
 frame_text names Json (Opening version false) = codes "\n"
 frame_text names Json Foot = codes "\n]\n"
 frame_text names Nft Head = concat (codes "add table inet " ∷ names.table ∷ codes "\n" ∷ [])
-frame_text names Nft (FamilyHead version) = concat
-    (codes "add set inet " ∷ names.table ∷ codes " " ∷ names.set ∷ family_word version ∷ codes " { type "
-    ∷ address_type version ∷ codes "; flags interval; }\nflush set inet " ∷ names.table ∷ codes " " ∷ names.set
-    ∷ family_word version ∷ codes "\n" ∷ [])
+frame_text names Nft (FamilyHead version) = if_looked_at names version (nft_set names version)
 frame_text names Nft (Opening version follows) = concat
     (codes "add element inet " ∷ names.table ∷ codes " " ∷ names.set ∷ family_word version ∷ codes " {\n\t" ∷ [])
-frame_text names Ipset Head = concat
-    (codes "create " ∷ names.set ∷ codes "_ipv4 hash:net family inet maxelem " ∷ names.limit
-    ∷ codes " -exist\ncreate " ∷ names.set ∷ codes "_ipv4_new hash:net family inet maxelem " ∷ names.limit
-    ∷ codes " -exist\ncreate " ∷ names.set ∷ codes "_ipv6 hash:net family inet6 maxelem " ∷ names.limit
-    ∷ codes " -exist\ncreate " ∷ names.set ∷ codes "_ipv6_new hash:net family inet6 maxelem " ∷ names.limit
-    ∷ codes " -exist\n" ∷ [])
-frame_text names Ipset (FamilyHead version) = concat
-    (codes "flush " ∷ names.set ∷ family_word version ∷ codes "_new\n" ∷ [])
-frame_text names Ipset Foot = concat
-    (codes "swap " ∷ names.set ∷ codes "_ipv6_new " ∷ names.set ∷ codes "_ipv6\nswap " ∷ names.set
-    ∷ codes "_ipv4_new " ∷ names.set ∷ codes "_ipv4\ndestroy " ∷ names.set ∷ codes "_ipv4_new\ndestroy "
-    ∷ names.set ∷ codes "_ipv6_new\n" ∷ [])
+frame_text names Ipset Head = concat (ipset_head names names.only)
+frame_text names Ipset (FamilyHead version) = if_looked_at names version (flushed names version)
+frame_text names Ipset Foot = concat (ipset_foot names names.only)
 frame_text names _ _ = []
 
 -- the text between two blocks of a family

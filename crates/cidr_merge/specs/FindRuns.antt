@@ -1,12 +1,12 @@
--- How a run ends that searches lists for addresses.
+-- How a run ends that searches lists for addresses and networks.
 use Rattle.std.specs.Prelude.{◌==◌, ◌||◌, ◌⊎◌, ◌++◌, ℕ, Bool, List, length, take, drop, if◌then◌else◌, String}
 use Rattle.std.specs.List.{concat}
 use Rattle.lines.specs.Outputs.{Written}
 use Rattle.lists.specs.KnownLists.{KnownLists}
 use Rattle.lists.specs.declared.named.ReadFault.{ReadFault}
-use Rattle.ipnetwork_addr.specs.declared.ip.IpAddr.{IpAddr}
+use Rattle.ipnetwork.specs.declared.ip_network.IpNetwork.{IpNetwork}
 use Rattle.cidr_merge.specs.Finds.{has_refused, lists_matches}
-use Rattle.cidr_merge.specs.FindWords.{AreAddresses, StopsAtWord, with_addresses}
+use Rattle.cidr_merge.specs.FindWords.{AreNetworks, StopsAtWord, with_networks}
 use Rattle.cidr_merge.specs.SoughtLines.{has_other, lists_sought}
 use Rattle.cidr_merge.specs.Texts.{AreTexts, TextsStop}
 use Rattle.cidr_merge.specs.Writing.{EndsSilently, EndsWriting}
@@ -17,34 +17,34 @@ use Rattle.cidr_merge.specs.declared.query.QueryFault.{QueryFault}
 abbrev pub search_status : List (List ℕ) → Bool → ℕ
 search_status printed refused = if refused then 2 else (if length printed == 0 then 1 else 0)
 
--- lists of these names and bytes were searched for these addresses, after other lines were refused or not: the matches
+-- lists of these names and bytes were searched for these networks, after other lines were refused or not: the matches
 -- were written, or the writer failed
-abbrev pub EndsSearching : {Z W : Type 0} → List (List ℕ × IpAddr) → Bool → List (String Z) → List (List ℕ) → Written W
+abbrev pub EndsSearching : {Z W : Type 0} → List (List ℕ × IpNetwork) → Bool → List (String Z) → List (List ℕ) → Written W
     → Written W → ℕ → Type 0
 EndsSearching sought others names texts old new status =
     EndsWriting old new status (concat (lists_matches sought names texts))
     (search_status (lists_matches sought names texts) (others || has_refused texts))
 
--- all lists were read: the addresses in the first `from` lists are searched for too, in the other lists
-abbrev pub EndsReading : {Z W : Type 0} → List (List ℕ × IpAddr) → List (String Z) → ℕ → List (List ℕ) → Written W
+-- all lists were read: the networks in the first `from` lists are searched for too, in the other lists
+abbrev pub EndsReading : {Z W : Type 0} → List (List ℕ × IpNetwork) → List (String Z) → ℕ → List (List ℕ) → Written W
     → Written W → ℕ → Type 0
 EndsReading sought names from texts old new status =
     EndsSearching (sought ++ lists_sought (take from texts)) (has_other (take from texts))
     (drop from names) (drop from texts) old new status
 
--- a list could not be read, or memory for the addresses ran out, and nothing was written; or all lists were read
-abbrev pub EndsReadingAll : {Z W : Type 0} → KnownLists → List (String Z) → ℕ → ℕ → List IpAddr → Written W → Written W
+-- a list could not be read, or memory for the networks ran out, and nothing was written; or all lists were read
+abbrev pub EndsReadingAll : {Z W : Type 0} → KnownLists → List (String Z) → ℕ → ℕ → List IpNetwork → Written W → Written W
     → ℕ → Type 0
-EndsReadingAll known words middle from addresses old new status =
+EndsReadingAll known words middle from networks old new status =
     ((fault : ReadFault) × TextsStop known (drop middle words) fault × EndsSilently old new status)
     ⊎ (EndsSilently old new status
     ⊎ ((texts : List (List ℕ)) × AreTexts known (drop middle words) texts
-    × EndsReading (with_addresses (take middle words) addresses) (drop middle words) from texts old new status))
+    × EndsReading (with_networks (take middle words) networks) (drop middle words) from texts old new status))
 
--- the first `middle` words name addresses, and the others name lists, the first `from` of which are lists of addresses;
--- or the first words are not accepted as addresses, and nothing was written
+-- the first `middle` words name networks, and the others name lists, the first `from` of which are lists of networks;
+-- or the first words are not accepted as networks, and nothing was written
 abbrev pub EndsFind : {Z W : Type 0} → KnownLists → List (String Z) → ℕ → ℕ → Written W → Written W → ℕ → Type 0
 EndsFind known words middle from old new status =
     ((fault : QueryFault) × StopsAtWord (take middle words) fault × EndsSilently old new status)
-    ⊎ ((addresses : List IpAddr) × AreAddresses (take middle words) addresses
-    × EndsReadingAll known words middle from addresses old new status)
+    ⊎ ((networks : List IpNetwork) × AreNetworks (take middle words) networks
+    × EndsReadingAll known words middle from networks old new status)

@@ -64,6 +64,8 @@ EndsFinding names request skips pools used old new status =
 abbrev pub EndsFree : {Z W : Type 0} → KnownLists → List (String Z) → Names → FreeRequest → Written W → Written W → ℕ
     → Type 0
 EndsFree known words names request old new status =
-    ((fault : ReadFault) × StopsInSides known names.fields words request.merge fault × EndsSilently old new status)
-    ⊎ ((pools used : Sets) × (refused : Refused) × ReadsSides known names.fields words request.merge pools used refused
+    ((fault : ReadFault) × StopsInSides known names.fields names.only words request.merge fault
+    × EndsSilently old new status)
+    ⊎ ((pools used : Sets) × (refused : Refused)
+    × ReadsSides known names.fields names.only words request.merge pools used refused
     × EndsFinding names request (was_refused refused) pools used old new status)

@@ -4,6 +4,7 @@ pub mod Bounds
 pub mod CommandLines
 pub mod Endings
 pub mod Exports
+pub mod Families
 pub mod FindRuns
 pub mod FindWords
 pub mod FieldNames

@@ -1,6 +1,6 @@
 -- The options of the command line, and which of them each task takes.
 use Rattle.std.specs.Prelude.{ℕ, true, List, [], ◌∷◌, codes}
-use Rattle.options.specs.Table.{Entry, IsTable, long_flag, alone, long, valued}
+use Rattle.options.specs.Table.{Entry, IsTable, flag, long_flag, alone, long, valued}
 use Rattle.options.specs.declared.table.Kind.TheVariants as kinds
 use Rattle.options.specs.declared.table.Table.{Table}
 use Rattle.cidr_merge.specs.declared.command_line.Operation.TheVariants as operations
@@ -83,6 +83,12 @@ masks = 23
 abbrev pub all : ℕ
 all = 24
 
+abbrev pub only_v4 : ℕ
+only_v4 = 25
+
+abbrev pub only_v6 : ℕ
+only_v6 = 26
+
 -- the options, in the order of their rows
 abbrev pub entries : List Entry
 entries =
@@ -96,18 +102,20 @@ entries =
     ∷ long (codes "--max-others") kinds.Text true ∷ long_flag (codes "--allow-empty")
     ∷ long (codes "--at-least") kinds.Number true ∷ long (codes "--max-change") kinds.Text true
     ∷ long (codes "--json-field") kinds.Text true ∷ long_flag (codes "--whole") ∷ long_flag (codes "--masks")
-    ∷ long_flag (codes "--all")
+    ∷ long_flag (codes "--all") ∷ flag (codes "4") ∷ flag (codes "6")
     ∷ alone (codes "--help") ∷ alone (codes "--version") ∷ alone (codes "--quiet") ∷ []
 
 -- the pairs of options that exclude each other: two output forms, a number for one family and one for each, a least
--- number of networks and none, documents and what is asked of lines, or an option with a value given twice
+-- number of networks and none, documents and what is asked of lines, a family alone and the other or its number,
+-- or an option that is given twice
 abbrev pub pairs : List (ℕ × ℕ)
 pairs =
     (ranges, count) ∷ (format, format) ∷ (format, ranges) ∷ (format, count) ∷ (prefix, prefix) ∷ (set, set)
     ∷ (table, table) ∷ (before, before) ∷ (after, after) ∷ (from, from) ∷ (most, most) ∷ (maxelem, maxelem)
     ∷ (most, ipv4) ∷ (most, ipv6) ∷ (ipv4, ipv4) ∷ (ipv6, ipv6) ∷ (max_others, max_others)
     ∷ (at_least, at_least) ∷ (max_change, max_change) ∷ (allow_empty, at_least) ∷ (json, whole) ∷ (json, masks)
-    ∷ (json_field, whole) ∷ (json_field, masks) ∷ []
+    ∷ (json_field, whole) ∷ (json_field, masks) ∷ (only_v4, only_v4) ∷ (only_v6, only_v6)
+    ∷ (only_v4, only_v6) ∷ (only_v4, ipv6) ∷ (only_v6, ipv4) ∷ []
 
 -- the table has these options and pairs
 abbrev pub IsOptions : Table → Type 0
@@ -117,21 +125,22 @@ IsOptions options = IsTable options entries pairs []
 abbrev pub taken : Task → List ℕ
 taken (tasks.Merge operations.Differ) =
     text ∷ ranges ∷ count ∷ format ∷ set ∷ table ∷ maxelem ∷ before ∷ after ∷ skip_bad ∷ json ∷ json_field ∷ strict
-    ∷ whole ∷ masks ∷ allow_empty ∷ at_least ∷ max_change ∷ []
+    ∷ whole ∷ masks ∷ allow_empty ∷ at_least ∷ max_change ∷ only_v4 ∷ only_v6 ∷ []
 taken (tasks.Merge operation) =
     text ∷ ranges ∷ count ∷ format ∷ set ∷ table ∷ maxelem ∷ before ∷ after ∷ skip_bad ∷ json ∷ json_field ∷ strict
-    ∷ whole ∷ masks ∷ allow_empty ∷ at_least ∷ []
+    ∷ whole ∷ masks ∷ allow_empty ∷ at_least ∷ only_v4 ∷ only_v6 ∷ []
 taken tasks.List =
     text ∷ ranges ∷ count ∷ format ∷ set ∷ table ∷ maxelem ∷ before ∷ after ∷ skip_bad ∷ json ∷ json_field ∷ strict
-    ∷ whole ∷ masks ∷ allow_empty ∷ at_least ∷ []
+    ∷ whole ∷ masks ∷ allow_empty ∷ at_least ∷ only_v4 ∷ only_v6 ∷ []
 taken tasks.Split =
     text ∷ prefix ∷ before ∷ after ∷ skip_bad ∷ json ∷ json_field ∷ strict
-    ∷ whole ∷ masks ∷ at_least ∷ []
+    ∷ whole ∷ masks ∷ at_least ∷ only_v4 ∷ only_v6 ∷ []
 taken tasks.Reduce =
     text ∷ ranges ∷ count ∷ format ∷ set ∷ table ∷ maxelem ∷ before ∷ after ∷ skip_bad ∷ json ∷ json_field ∷ strict
-    ∷ whole ∷ masks ∷ allow_empty ∷ at_least ∷ most ∷ ipv4 ∷ ipv6 ∷ max_others ∷ []
+    ∷ whole ∷ masks ∷ allow_empty ∷ at_least ∷ most ∷ ipv4 ∷ ipv6 ∷ max_others ∷ only_v4 ∷ only_v6 ∷ []
 taken tasks.Check = text ∷ strict ∷ []
 taken tasks.Overlaps = text ∷ []
 taken tasks.Find = text ∷ from ∷ []
 taken tasks.Free =
-    text ∷ prefix ∷ all ∷ before ∷ after ∷ skip_bad ∷ json ∷ json_field ∷ strict ∷ whole ∷ masks ∷ allow_empty ∷ []
+    text ∷ prefix ∷ all ∷ before ∷ after ∷ skip_bad ∷ json ∷ json_field ∷ strict ∷ whole ∷ masks ∷ allow_empty
+    ∷ only_v4 ∷ only_v6 ∷ []

@@ -2,6 +2,7 @@
 pub mod Entries
 pub mod LinesLeft
 pub mod SoughtPlaces
+pub mod PlacesFound
 pub mod Printing
 pub mod Reported
 pub mod Sweeps

@@ -55,5 +55,5 @@ EndsJoining names request skips sets old new status =
 abbrev pub EndsReducing : {Z W : Type 0} → KnownLists → List (String Z) → Names → ReduceRequest → Written W → Written W
     → ℕ → Type 0
 EndsReducing known words names request old new status =
-    EndsSide known names.fields words request.merge.shape (λ sets skips. EndsJoining names request skips sets old new status)
-    old new status
+    EndsSide known names.fields names.only words request.merge.shape
+    (λ sets skips. EndsJoining names request skips sets old new status) old new status

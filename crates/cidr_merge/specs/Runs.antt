@@ -51,6 +51,7 @@ EndsAnswering sets request skips first second old new status =
 abbrev pub EndsMerging : {Z W : Type 0} → KnownLists → List (String Z) → Names → Request → Written W → Written W → ℕ
     → Type 0
 EndsMerging known words sets request old new status =
-    ((fault : ReadFault) × StopsInSides known sets.fields words request fault × EndsSilently old new status)
-    ⊎ ((first second : Sets) × (refused : Refused) × ReadsSides known sets.fields words request first second refused
+    ((fault : ReadFault) × StopsInSides known sets.fields sets.only words request fault × EndsSilently old new status)
+    ⊎ ((first second : Sets) × (refused : Refused)
+    × ReadsSides known sets.fields sets.only words request first second refused
     × EndsAnswering sets request (was_refused refused) first second old new status)

@@ -1,4 +1,5 @@
--- The names of the sets that an export fills, their limit, the texts around each line, and the names of fields of JSON.
+-- The families that a result has, the names of the sets that an export fills, their limit, the texts around each line,
+-- and the names of fields of JSON.
 use Rattle.std.specs.Prelude.{ℕ, ◌==◌, ◌&&◌, ◌||◌, Bool, false, not, List, [], ◌∷◌, ◌++◌, length, nat_lt, nat_le}
 use Rattle.std.specs.Prelude.{codes, if◌then◌else◌, Option, None, Some}
 use Rattle.std.specs.List.{concat, list_all}
@@ -6,11 +7,15 @@ use Rattle.options.specs.Given.{is_given, value_of}
 use Rattle.options.specs.Values.{number_in}
 use Rattle.options.specs.declared.items.Item.{Item}
 use Rattle.cidr_merge.specs.FieldNames.{fields_of}
+use Rattle.cidr_merge.specs.Families.{only_of}
 use Rattle.cidr_merge.specs.Options as own
+use Rattle.cidr_merge.specs.declared.exports.Version.{Version}
 
--- the table of nftables, the beginning of the names of both sets, the number of elements that a set of ipset is made
--- for, the texts before and after each line, and the names of the fields whose strings are read
+-- the family that is looked at alone, if not both are, the table of nftables, the beginning of the names of both sets,
+-- the number of elements that a set of ipset is made for, the texts before and after each line, and the names of the
+-- fields whose strings are read
 pub record Names : Type 0 where
+  pub only : Option Version
   pub table : List ℕ
   pub set : List ℕ
   pub limit : List ℕ
@@ -32,6 +37,7 @@ limit_by items = if is_given items own.maxelem then value_of items own.maxelem e
 
 abbrev pub names_of : List Item → Names
 names_of items = record {
+  only = only_of items;
   table = name_by own.table items;
   set = name_by own.set items;
   limit = limit_by items;

@@ -1,5 +1,5 @@
 -- The formats of lists, and the result of reading one list.
-use Rattle.std.specs.Prelude.{◌≡◌, ℕ, true, false, List, Option, None, Some}
+use Rattle.std.specs.Prelude.{◌≡◌, ℕ, true, List, Option, None, Some}
 use Rattle.std.specs.Str.Lines.{lines}
 use Rattle.lists.specs.Documents.{ReadsDocument, StopsAtDocument}
 use Rattle.lists.specs.KnownLists.{KnownLists}

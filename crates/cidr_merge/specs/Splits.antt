@@ -26,5 +26,5 @@ EndsCutting names request skips sets old new status =
 abbrev pub EndsSplitting : {Z W : Type 0} → KnownLists → List (String Z) → Names → SplitRequest → Written W → Written W
     → ℕ → Type 0
 EndsSplitting known words names request old new status =
-    EndsSide known names.fields words request.shape (λ sets skips. EndsCutting names request skips sets old new status)
-    old new status
+    EndsSide known names.fields names.only words request.shape
+    (λ sets skips. EndsCutting names request skips sets old new status) old new status

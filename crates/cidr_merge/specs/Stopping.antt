@@ -1,5 +1,5 @@
 -- Where the reading of lists stops.
-use Rattle.std.specs.Prelude.{◌≡◌, ℕ, ◌+◌, List, ◌∷◌, ◌++◌, ◌⊎◌, false, String, length, take}
+use Rattle.std.specs.Prelude.{◌≡◌, ℕ, ◌+◌, List, ◌∷◌, ◌++◌, ◌⊎◌, Option, false, String, length, take}
 use Rattle.std.specs.Prelude.{drop}
 use Rattle.std.specs.String.{string_bytes}
 use Rattle.lists.specs.Lists.{ReadLists, nothing_read}
@@ -9,6 +9,7 @@ use Rattle.cidr_merge.specs.Shapes.{Source, source, rules_of, StopsOne}
 use Rattle.lists.specs.declared.named.ReadFault.{ReadFault}
 use Rattle.cidr_merge.specs.Reading.{ReadsLists, ReadsSide}
 use Rattle.cidr_merge.specs.declared.command_line.Request.{Request}
+use Rattle.cidr_merge.specs.declared.exports.Version.{Version}
 use Rattle.cidr_merge.specs.declared.reading.Sets.{Sets}
 
 -- the lists of these names, the first of which has this number, are read in turn up to one at which the reading
@@ -26,11 +27,12 @@ pub record Stops {Z : Type 0} (from : Source) (number : ℕ) (names : List (Stri
   pub stops : StopsOne from (number + length first) (string_bytes name) between fault refused
 
 -- the reading stops at a list of the first side, or, if those were read, at one of the second
-abbrev pub StopsInSides : {Z : Type 0} → KnownLists → List (List ℕ) → List (String Z) → Request → ReadFault → Type 0
-StopsInSides known fields words request fault =
+abbrev pub StopsInSides : {Z : Type 0} → KnownLists → List (List ℕ) → Option Version → List (String Z) → Request
+    → ReadFault → Type 0
+StopsInSides known fields only words request fault =
     Stops (source known fields request.shape) 0 (take request.middle words)
     (nothing_read (rules_of request.shape) no_refusals) fault
     ⊎ ((first : Sets) × (between : Refused)
-    × ReadsSide (source known fields request.shape) 0 (take request.middle words) no_refusals first between
+    × ReadsSide (source known fields request.shape) only 0 (take request.middle words) no_refusals first between
     × Stops (source known fields request.shape) request.middle (drop request.middle words)
     (nothing_read (rules_of request.shape) between) fault)

@@ -1,11 +1,25 @@
-//! The entries in the lines of lists, and the addresses they have.
+//! The entries in the lines of lists, and how they stand to networks.
 ghost use Rattle.std.specs.Prelude.{◌≡◌};
-ghost use Rattle.cidr_merge.specs.Finds.{has};
+ghost use Rattle.cidr_merge.specs.Finds.{do_meet, has_all, relation_of};
 ghost use Rattle.cidr_merge.specs.NumberedLines.{is_range, said_by};
 
-use ipnetwork::{IpAddr, laws as network_laws};
+use crate::placed::ends_of;
+use ipnetwork::{IpAddr, IpNetwork, laws as network_laws};
 use ipnetwork_addr::laws as address_laws;
 use lists::{Entry, LINE_MAX, LineFault, read_entry};
+
+/// How an entry stands to a network.
+#[derive(Clone, Copy, Debug, PartialEq, Eq)]
+pub(crate) enum Relation {
+    /// It has all addresses of the network.
+    HasAll,
+    /// All its addresses are in the network, which has more.
+    LiesIn,
+    /// It has addresses of the network and others, and the network has more.
+    Meets,
+    /// It has no address of the network.
+    Apart,
+}
 
 /// Returns the entry of a line, if it has one, or why the line is refused.
 pub(crate) fn entry_of(line: &[u8]) -> Result<Option<Entry>, LineFault>
@@ -23,16 +37,35 @@ pub(crate) fn entry_of(line: &[u8]) -> Result<Option<Entry>, LineFault>
     }
 }
 
-/// Returns whether an entry has an address.
-pub(crate) fn has_address(entry: &Entry, address: &IpAddr) -> bool
-    ensures { result ≡ has entry.now address.now }
+/// Returns how an entry stands to a network.
+pub(crate) fn relation_of(entry: &Entry, network: &IpNetwork) -> Relation
+    ensures { result ≡ relation_of entry.now network.now }
 {
-    // Does nothing. The proof needs the law: the members of a network can be computed.
-    network_laws::ip_membership_is_computed();
-    match entry {
-        Entry::Network(network) => network.contains(*address),
-        Entry::Range { first, last } => is_range(first, address) && is_range(address, last),
+    let ends = ends_of(entry);
+    let others = (network.network(), network.broadcast());
+    if !do_meet(&ends, &others) {
+        Relation::Apart
+    } else if has_all(&ends, &others) {
+        Relation::HasAll
+    } else if has_all(&others, &ends) {
+        Relation::LiesIn
+    } else {
+        Relation::Meets
     }
+}
+
+// Returns whether the addresses between two ends share one with those between two others.
+fn do_meet(ends: &(IpAddr, IpAddr), others: &(IpAddr, IpAddr)) -> bool
+    ensures { result ≡ do_meet ends.now others.now }
+{
+    is_range(&ends.0, &others.1) && is_range(&others.0, &ends.1)
+}
+
+// Returns whether the addresses between two ends have all those between two others.
+fn has_all(ends: &(IpAddr, IpAddr), others: &(IpAddr, IpAddr)) -> bool
+    ensures { result ≡ has_all ends.now others.now }
+{
+    is_range(&ends.0, &others.0) && is_range(&others.1, &ends.1)
 }
 
 // Returns whether the addresses are of one family and the first is not greater than the last.

@@ -2,8 +2,11 @@
 ghost use Rattle.std.specs.Prelude.{◌≡◌};
 ghost use Rattle.program.specs.Putting.{PutsOrFails};
 ghost use Rattle.cidr_merge.specs.Exports.{frame_text, separator, closing};
-ghost use Rattle.cidr_merge.specs.Exports.{family_word, address_type};
+ghost use Rattle.cidr_merge.specs.Exports.{family_word, address_type, inet_word, if_looked_at};
+ghost use Rattle.cidr_merge.specs.Exports.{created_texts, nft_set, flushed, ipset_head, ipset_foot};
+ghost use Rattle.std.specs.List.{concat};
 
+use crate::families::looks_at;
 use crate::set_names::SetNames;
 use lines::fault::RunFault;
 use lines::output::Output;
@@ -19,7 +22,7 @@ pub enum Export {
     Wildcard,
     /// Comma-separated values with a header line.
     Csv,
-    /// Input for `nft -f` that replaces the elements of both families' sets by these blocks.
+    /// Input for `nft -f` that replaces the elements of the families' sets by these blocks.
     Nft,
     /// Input for `ipset restore` that does the same: what creates the sets comes first, and what
     /// replaces them last, so that nothing is changed if a set is another or too small.
@@ -59,6 +62,16 @@ fn address_type(version: Version) -> &'static str
     }
 }
 
+// Returns the name of a family for ipset.
+fn inet_word(version: Version) -> &'static str
+    ensures { result.now ≡ inet_word version }
+{
+    match version {
+        Version::V4 => "inet",
+        Version::V6 => "inet6",
+    }
+}
+
 /// A place around the blocks of an export.
 #[derive(Clone, Copy, Debug, PartialEq, Eq)]
 pub enum Frame {
@@ -93,27 +106,7 @@ pub(crate) fn put_frame<W: Write>(
         (Export::Json, Frame::Opening(_, false)) => put_all(&["\n"], output),
         (Export::Json, Frame::Foot) => put_all(&["\n]\n"], output),
         (Export::Nft, Frame::Head) => put_all(&["add table inet ", table, "\n"], output),
-        (Export::Nft, Frame::FamilyHead(version)) => {
-            let (word, addresses) = (family_word(version), address_type(version));
-            put_all(
-                &[
-                    "add set inet ",
-                    table,
-                    " ",
-                    set,
-                    word,
-                    " { type ",
-                    addresses,
-                    "; flags interval; }\nflush set inet ",
-                    table,
-                    " ",
-                    set,
-                    word,
-                    "\n",
-                ],
-                output,
-            )
-        }
+        (Export::Nft, Frame::FamilyHead(version)) => put_nft_set(names, version, output),
         (Export::Nft, Frame::Opening(version, _)) => {
             let word = family_word(version);
             put_all(
@@ -121,7 +114,86 @@ pub(crate) fn put_frame<W: Write>(
                 output,
             )
         }
-        (Export::Ipset, Frame::Head) => {
+        (Export::Ipset, Frame::Head) => put_ipset_head(names, output),
+        (Export::Ipset, Frame::FamilyHead(version)) => put_flush(names, version, output),
+        (Export::Ipset, Frame::Foot) => put_ipset_foot(names, output),
+        _ => Ok(()),
+    }
+}
+
+// Writes the lines that create a family's set of nftables, unless it exists, and empty it.
+fn put_nft_set<W: Write>(
+    names: &SetNames<'_>,
+    version: Version,
+    output: &mut Output<'_, W>,
+) -> Result<(), RunFault>
+    ensures { PutsOrFails result output.old output.new
+        (if_looked_at names.now version (nft_set names.now version)) }
+{
+    if !looks_at(names.only, version) {
+        return Ok(());
+    }
+    let (table, set) = (names.table, names.set);
+    let (table, set) = (table.as_str(), set.as_str());
+    let (word, addresses) = (family_word(version), address_type(version));
+    put_all(
+        &[
+            "add set inet ",
+            table,
+            " ",
+            set,
+            word,
+            " { type ",
+            addresses,
+            "; flags interval; }\nflush set inet ",
+            table,
+            " ",
+            set,
+            word,
+            "\n",
+        ],
+        output,
+    )
+}
+
+// Writes the line that empties a family's new set of ipset.
+fn put_flush<W: Write>(
+    names: &SetNames<'_>,
+    version: Version,
+    output: &mut Output<'_, W>,
+) -> Result<(), RunFault>
+    ensures { PutsOrFails result output.old output.new
+        (if_looked_at names.now version (flushed names.now version)) }
+{
+    if !looks_at(names.only, version) {
+        return Ok(());
+    }
+    let set = names.set;
+    put_all(
+        &["flush ", set.as_str(), family_word(version), "_new\n"],
+        output,
+    )
+}
+
+// Writes the lines that create the sets of ipset and new ones, unless they exist.
+fn put_ipset_head<W: Write>(
+    names: &SetNames<'_>,
+    output: &mut Output<'_, W>,
+) -> Result<(), RunFault>
+    ensures { PutsOrFails result output.old output.new
+        (concat (ipset_head names.now names.now.only)) }
+{
+    let set = names.set;
+    let set = set.as_str();
+    match names.only {
+        Some(version) => put_created(
+            set,
+            family_word(version),
+            inet_word(version),
+            names.limit,
+            output,
+        ),
+        None => {
             let limit = names.limit;
             put_all(
                 &[
@@ -146,10 +218,73 @@ pub(crate) fn put_frame<W: Write>(
                 output,
             )
         }
-        (Export::Ipset, Frame::FamilyHead(version)) => {
-            put_all(&["flush ", set, family_word(version), "_new\n"], output)
+    }
+}
+
+// Writes the lines that create a set of ipset and a new one, from the beginning of their names, the
+// suffix and the family.
+fn put_created<'a, W: Write>(
+    set: &'a str,
+    word: &'a str,
+    inet: &'a str,
+    limit: &'a str,
+    output: &mut Output<'_, W>,
+) -> Result<(), RunFault>
+    ensures { PutsOrFails result output.old output.new
+        (concat (created_texts set.now word.now inet.now limit.now)) }
+{
+    put_all(
+        &[
+            "create ",
+            set,
+            word,
+            " hash:net family ",
+            inet,
+            " maxelem ",
+            limit,
+            " -exist\ncreate ",
+            set,
+            word,
+            "_new hash:net family ",
+            inet,
+            " maxelem ",
+            limit,
+            " -exist\n",
+        ],
+        output,
+    )
+}
+
+// Writes the lines that put the new sets of ipset in the place of the old ones, and destroy these.
+fn put_ipset_foot<W: Write>(
+    names: &SetNames<'_>,
+    output: &mut Output<'_, W>,
+) -> Result<(), RunFault>
+    ensures { PutsOrFails result output.old output.new
+        (concat (ipset_foot names.now names.now.only)) }
+{
+    let set = names.set;
+    let set = set.as_str();
+    match names.only {
+        Some(version) => {
+            let word = family_word(version);
+            put_all(
+                &[
+                    "swap ",
+                    set,
+                    word,
+                    "_new ",
+                    set,
+                    word,
+                    "\ndestroy ",
+                    set,
+                    word,
+                    "_new\n",
+                ],
+                output,
+            )
         }
-        (Export::Ipset, Frame::Foot) => {
+        None => {
             put_all(
                 &[
                     "swap ",
@@ -169,7 +304,6 @@ pub(crate) fn put_frame<W: Write>(
                 output,
             )
         }
-        _ => Ok(()),
     }
 }
 

@@ -1,50 +1,52 @@
-//! The addresses that are sought in lists.
+//! The addresses and networks that are sought in lists.
 ghost use Rattle.std.specs.Prelude.{◌≡◌, ◌+◌, ◌^◌, ◌<◌, length, IfOk, IfErr};
-ghost use Rattle.cidr_merge.specs.FindWords.{AreAddresses, StopsAtWord};
+ghost use Rattle.cidr_merge.specs.FindWords.{AreNetworks, StopsAtWord};
 
-use crate::sought::Sought;
-use crate::sought_places::Place;
-use ipnetwork::IpAddr;
+use crate::sought::{Sought, network_in};
+use crate::sought_places::Places;
+use ipnetwork::IpNetwork;
+use lists::EntryFault;
 use std::alloc::Global;
 
-/// The addresses that are sought.
+/// The networks that are sought; an address is a network of one address.
 #[derive(Drop)]
 pub(crate) struct Query {
-    /// The addresses, in the order in which they are printed.
+    /// The networks, in the order in which they are printed.
     pub sought: Vec<Sought>,
-    /// The places of the IPv4 addresses, in ascending order of their numbers.
-    pub v4: Vec<Place>,
-    /// The places of the IPv6 addresses, in ascending order of their numbers.
-    pub v6: Vec<Place>,
+    /// The places of the IPv4 networks.
+    pub v4: Places,
+    /// The places of the IPv6 networks.
+    pub v6: Places,
 }
 
-/// Why words are not accepted as addresses.
+/// Why words are not accepted as addresses and networks.
 #[derive(Clone, Copy, Debug, PartialEq, Eq)]
 pub(crate) enum QueryFault {
-    /// The word at this index is not an address.
-    NotAnAddress(usize),
+    /// The word at this index is none, or a network with host bits.
+    Wrong(usize, EntryFault),
     /// Out of memory.
     OutOfMemory,
 }
 
-/// Returns the addresses that these words name; the first of the words has the index `first`.
-pub(crate) fn addresses_of(
+/// Returns the networks that these words name; the first of the words has the index `first`.
+pub(crate) fn networks_of(
     alloc: Global,
     words: &[String],
     first: usize,
-) -> Result<Vec<IpAddr>, QueryFault>
+) -> Result<Vec<IpNetwork>, QueryFault>
     requires { first + length words.now < 2 ^ 64 }
-    ensures ok { IfOk result (λ addresses. AreAddresses words.now addresses.items) }
+    ensures ok { IfOk result (λ networks. AreNetworks words.now networks.items) }
     ensures err { IfErr result (StopsAtWord words.now) }
 {
-    let mut addresses = Vec::new(alloc);
+    let mut networks = Vec::new(alloc);
     for place in 0..words.len() {
-        let Ok(address) = IpAddr::read_bytes(words[place].as_str().as_bytes()) else {
-            return Err(QueryFault::NotAnAddress(first + place));
+        let network = match network_in(words[place].as_str().as_bytes()) {
+            Ok(network) => network,
+            Err(fault) => return Err(QueryFault::Wrong(first + place, fault)),
         };
-        let Ok(_) = addresses.push(address) else {
+        let Ok(_) = networks.push(network) else {
             return Err(QueryFault::OutOfMemory);
         };
     }
-    Ok(addresses)
+    Ok(networks)
 }

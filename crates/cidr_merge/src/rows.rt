@@ -81,8 +81,14 @@ pub(crate) const MASKS: usize = 23;
 /// The row of `--all`.
 pub(crate) const ALL: usize = 24;
 
+/// The row of `-4`.
+pub(crate) const ONLY_V4: usize = 25;
+
+/// The row of `-6`.
+pub(crate) const ONLY_V6: usize = 26;
+
 // The options.
-const ROWS: [Row; 28] = [
+const ROWS: [Row; 30] = [
     long!("--ranges", Flag, false, ""),
     long!("--count", Flag, false, ""),
     long!(
@@ -119,6 +125,8 @@ const ROWS: [Row; 28] = [
     long!("--whole", Flag, false, ""),
     long!("--masks", Flag, false, ""),
     long!("--all", Flag, false, ""),
+    letter!(b'4', Flag, ""),
+    letter!(b'6', Flag, ""),
     long!("--help", Alone, false, "not the only argument"),
     long!("--version", Alone, false, "not the only argument"),
     long!(
@@ -146,7 +154,7 @@ const TWO_COUNTS: &str = "--most: not together with --ipv4 or --ipv6";
 const ANOTHER_FORM: &str = "--format: given twice, or together with --ranges or --count";
 
 // The pairs of options that exclude each other.
-const PAIRS: [Pair; 24] = [
+const PAIRS: [Pair; 29] = [
     pair!(RANGES, COUNT, "--ranges: not together with --count"),
     pair!(FORMAT, FORMAT, ANOTHER_FORM),
     pair!(FORMAT, RANGES, ANOTHER_FORM),
@@ -175,6 +183,11 @@ const PAIRS: [Pair; 24] = [
     pair!(JSON, MASKS, "--masks: not together with --json"),
     pair!(JSON_FIELD, WHOLE, "--whole: not together with --json-field"),
     pair!(JSON_FIELD, MASKS, "--masks: not together with --json-field"),
+    pair!(ONLY_V4, ONLY_V4, "-4: given twice"),
+    pair!(ONLY_V6, ONLY_V6, "-6: given twice"),
+    pair!(ONLY_V4, ONLY_V6, "-4: not together with -6"),
+    pair!(ONLY_V4, IPV6, "-4: not together with --ipv6"),
+    pair!(ONLY_V6, IPV4, "-6: not together with --ipv4"),
 ];
 
 /// The options.
@@ -191,7 +204,7 @@ pub(crate) fn table() -> Table<'static>
 
 // The options of a merge, a `differ`, a `split`, a `reduce`, a `check` and a `free`, by the indices
 // of their rows.
-const OF_MERGES: [usize; 17] = [
+const OF_MERGES: [usize; 19] = [
     TEXT,
     RANGES,
     COUNT,
@@ -209,9 +222,11 @@ const OF_MERGES: [usize; 17] = [
     MASKS,
     ALLOW_EMPTY,
     AT_LEAST,
+    ONLY_V4,
+    ONLY_V6,
 ];
 
-const OF_DIFFER: [usize; 18] = [
+const OF_DIFFER: [usize; 20] = [
     TEXT,
     RANGES,
     COUNT,
@@ -230,13 +245,16 @@ const OF_DIFFER: [usize; 18] = [
     ALLOW_EMPTY,
     AT_LEAST,
     MAX_CHANGE,
+    ONLY_V4,
+    ONLY_V6,
 ];
 
-const OF_SPLIT: [usize; 11] = [
+const OF_SPLIT: [usize; 13] = [
     TEXT, PREFIX, BEFORE, AFTER, SKIP_BAD, JSON, JSON_FIELD, STRICT, WHOLE, MASKS, AT_LEAST,
+    ONLY_V4, ONLY_V6,
 ];
 
-const OF_REDUCE: [usize; 21] = [
+const OF_REDUCE: [usize; 23] = [
     TEXT,
     RANGES,
     COUNT,
@@ -258,11 +276,13 @@ const OF_REDUCE: [usize; 21] = [
     IPV4,
     IPV6,
     MAX_OTHERS,
+    ONLY_V4,
+    ONLY_V6,
 ];
 
 const OF_CHECK: [usize; 2] = [TEXT, STRICT];
 
-const OF_FREE: [usize; 12] = [
+const OF_FREE: [usize; 14] = [
     TEXT,
     PREFIX,
     ALL,
@@ -275,6 +295,8 @@ const OF_FREE: [usize; 12] = [
     WHOLE,
     MASKS,
     ALLOW_EMPTY,
+    ONLY_V4,
+    ONLY_V6,
 ];
 
 /// The options that a task takes, by the indices of their rows.

@@ -143,9 +143,10 @@ pub(crate) fn read_sides<L: OpenLists>(
 ) -> (Sets, Sets, Refusals, Result<(), ReadFault>)
     requires { request.middle ≤ length context.now.names.now }
     ensures read { OnOk result.3 (ReadsSides (L.known context.now.lists.now)
-        context.now.sets.now.fields context.now.names.now request result.0 result.1 result.2) }
+        context.now.sets.now.fields context.now.sets.now.only context.now.names.now request
+        result.0 result.1 result.2) }
     ensures stopped { IfErr result.3 (StopsInSides (L.known context.now.lists.now)
-        context.now.sets.now.fields context.now.names.now request) }
+        context.now.sets.now.fields context.now.sets.now.only context.now.names.now request) }
 {
     let shape = request.shape;
     let none = Refusals::new();

@@ -1,15 +1,15 @@
-//! Searches lists for addresses.
-ghost use Rattle.std.specs.Prelude.{◌≡◌, ◌≤◌, length, map, is_err};
+//! Searches lists for addresses and networks.
+ghost use Rattle.std.specs.Prelude.{◌≡◌, ◌≤◌, ◌∷◌, [], length, map, is_err};
 ghost use Rattle.std.specs.List.{flat_map};
 ghost use Rattle.program.specs.Messages.{Reports};
-ghost use Rattle.cidr_merge.specs.Finds.{has_refused, has_text, lists_matches, match_lines};
-ghost use Rattle.cidr_merge.specs.Finds.{matches_by};
+ghost use Rattle.cidr_merge.specs.Finds.{has_refused, has_slash, has_words, lists_matches};
+ghost use Rattle.cidr_merge.specs.Finds.{match_lines, matches_by, relation_text};
 ghost use Rattle.cidr_merge.specs.NumberedLines.{said_by};
 ghost use Rattle.cidr_merge.specs.Private.Reported.{TellsFound};
 ghost use Rattle.cidr_merge.specs.Private.LinesLeft.{sought_as, sought_in};
 ghost use Rattle.cidr_merge.specs.Private.SoughtPlaces.{AreFound, AreQuery};
 
-use crate::entry_match::{entry_of, has_address};
+use crate::entry_match::{Relation, entry_of, relation_of};
 use crate::findings::{either, tell_line, tell_refused};
 use crate::numbered_lines::{Line, NumberedLines};
 use crate::query::Query;
@@ -29,7 +29,7 @@ pub(crate) struct Reported {
     pub told: bool,
 }
 
-/// Prints the entries of lists that have sought addresses, and reports the refused lines.
+/// Prints the entries of lists that meet sought networks, and reports the refused lines.
 pub(crate) fn search_lists<W: Write, E: Write>(
     query: &Query,
     buffer: &mut [usize],
@@ -88,7 +88,7 @@ fn search_line<W: Write, E: Write>(
     }
 }
 
-// Prints a line for each of the addresses sought that the entry of a line has.
+// Prints a line for each of the networks sought that the entry of a line meets.
 fn print_matches<W: Write>(
     query: &Query,
     buffer: &mut [usize],
@@ -111,7 +111,7 @@ fn print_matches<W: Write>(
     )
 }
 
-// Prints a line for each of the addresses at these places that the entry of a line has.
+// Prints a line for each of the networks at these places that the entry of a line meets.
 fn print_found<W: Write>(
     sought: &[Sought],
     places: &[usize],
@@ -137,7 +137,7 @@ fn print_found<W: Write>(
     printed
 }
 
-// Prints a line if the entry of a line has an address.
+// Prints how the entry of a line stands to a network, if they share an address.
 fn print_match<W: Write>(
     one: &Sought,
     line: &Line<'_>,
@@ -147,18 +147,45 @@ fn print_match<W: Write>(
     ensures { TellsFound (match_lines line.now.name.now line.now.number line.now.text.now entry.now
         (sought_as one.now)) output.old output.new result }
 {
-    if has_address(entry, &one.address) {
-        print_line(one.text.as_slice(), line, output);
-        true
-    } else {
-        false
+    let text = one.text.as_slice();
+    match relation_of(entry, &one.network) {
+        Relation::HasAll => print_relation(has_words(text), text, line, output),
+        Relation::LiesIn => print_relation(": lies in ", text, line, output),
+        Relation::Meets => print_relation(": meets ", text, line, output),
+        Relation::Apart => false,
     }
 }
 
-// Prints that the entry of a line has the address that a text names.
-fn print_line<W: Write>(text: &[u8], line: &Line<'_>, output: &mut Output<'_, W>)
-    ensures { Reports output.old output.new
-        (has_text line.now.name.now line.now.number text.now line.now.text.now) }
+// Prints what the entry of a line is to the network of a text, and returns `true`: a line is
+// printed.
+fn print_relation<W: Write>(
+    what: &str,
+    text: &[u8],
+    line: &Line<'_>,
+    output: &mut Output<'_, W>,
+) -> bool
+    ensures { TellsFound (relation_text line.now.name.now line.now.number what.now text.now
+        line.now.text.now ∷ []) output.old output.new result }
 {
-    tell_line(line, ": has ", text, ": ", output);
+    tell_line(line, what, text, ": ", output);
+    true
+}
+
+// What is told of an entry that has all addresses of the network that a text names, which is an
+// address if it has no `/`.
+fn has_words(text: &[u8]) -> &'static str
+    ensures { result.now ≡ has_words text.now }
+{
+    if has_slash(text) {
+        ": has all of "
+    } else {
+        ": has "
+    }
+}
+
+// Whether the text has a `/`.
+fn has_slash(text: &[u8]) -> bool
+    ensures { result ≡ has_slash text.now }
+{
+    text.iter().any(|byte| *byte == b'/')
 }

@@ -1,5 +1,5 @@
-//! The names of the sets that an export fills, their limit, the texts around each line, and the
-//! names of fields of JSON.
+//! The families that a result has, the names of the sets that an export fills, their limit, the
+//! texts around each line, and the names of fields of JSON.
 ghost use Rattle.std.specs.Prelude.{◌≡◌, ◌∷◌, [], IfOk, map};
 ghost use Rattle.std.specs.String.{string_bytes};
 ghost use Rattle.std.specs.List.{list_all};
@@ -7,6 +7,8 @@ ghost use Rattle.cidr_merge.specs.SetNames.{is_letter, is_name_byte, is_set_name
 ghost use Rattle.cidr_merge.specs.SetNames.{is_limit, limit_by, line_of, name_in, names_of};
 ghost use Rattle.program.specs.Putting.{PutsOrFails};
 
+use crate::exports::Version;
+use crate::families::only_of;
 use crate::field_names::fields_of;
 use crate::rows::{AFTER, BEFORE, MAXELEM, SET, TABLE};
 use arrayvec::ArrayString;
@@ -29,10 +31,13 @@ const MOST_ELEMENTS: u64 = 4_294_967_295;
 /// The name of a set or a table.
 pub(crate) type Name = ArrayString<NAME_MAX>;
 
-/// The table of nftables, the beginning of both sets' names, how many elements a set of ipset is
-/// made for, the texts around each line, and the names of the fields of JSON that are read.
+/// The families that are looked at, the table of nftables, the beginning of both sets' names, how
+/// many elements a set of ipset is made for, the texts around each line, and the names of the
+/// fields of JSON that are read.
 #[derive(Debug, Drop)]
 pub struct SetNames<'a> {
+    /// The family that is looked at alone, if not both are.
+    pub only: Option<Version>,
     /// The table.
     pub table: Name,
     /// The beginning of `NAME_ipv4` and `NAME_ipv6`.
@@ -56,6 +61,7 @@ impl<'a> Model for SetNames<'a> {
     ghost Value = { Names };
 
     ghost view = { λ names. record {
+      only = names.only;
       table = names.table.bytes;
       set = names.set.bytes;
       limit = names.limit.now;
@@ -74,13 +80,14 @@ impl<'a> SetNames<'a> {
     }
 }
 
-/// Returns the names and texts that options give, with defaults for those not given. `AllocError`:
+/// Returns the family, names and texts that options give, with defaults for those not given. `AllocError`:
 /// out of memory.
 pub(crate) fn names_of<'a>(alloc: Global, items: &[Item<'a>]) -> Result<SetNames<'a>, AllocError>
     ensures { IfOk result (λ names. names ≡ names_of items.now) }
 {
     let fields = fields_of(alloc, items)?;
     Ok(SetNames {
+        only: only_of(items),
         table: name_by(items, TABLE),
         set: name_by(items, SET),
         limit: limit_by(items),

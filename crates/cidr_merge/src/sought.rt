@@ -1,50 +1,48 @@
-//! The addresses that are sought in lists, each with the text that names it.
+//! The networks that are sought in lists, each with the text that names it.
 ghost use Rattle.std.specs.Prelude.{◌≡◌, ◌++◌, ◌∷◌, [], length, map, IfOk, OnOk};
-ghost use Rattle.cidr_merge.specs.FindWords.{with_addresses};
+ghost use Rattle.cidr_merge.specs.FindWords.{with_networks};
 ghost use Rattle.cidr_merge.specs.Private.LinesLeft.{sought_as};
 ghost use Rattle.cidr_merge.specs.SoughtLines.{has_other, is_other, is_other_line};
-ghost use Rattle.cidr_merge.specs.SoughtLines.{lists_sought, sought_of};
-ghost use Rattle.ipnetwork_addr.specs.Computed.Either.{ip_of};
+ghost use Rattle.cidr_merge.specs.SoughtLines.{lists_sought, network_in, sought_of};
 ghost use Rattle.lists.specs.Lines.{trimmed};
 
 use crate::findings::{either, tell_refused};
 use crate::numbered_lines::{Line, NumberedLines};
 use crate::texts::WholeLists;
-use ipnetwork::IpAddr;
-use ipnetwork_addr::laws;
+use ipnetwork::{CidrFault, IpNetwork, cause, laws};
 use lines::output::Output;
-use lists::{Blank, EntryFault, LineFault, encoding_of, trim};
+use lists::{Blank, Entry, EntryFault, LineFault, encoding_of, has_host_bits, trim};
 use std::alloc::{AllocError, Global};
 use std::io::Write;
 
-/// An address that is sought, and the text that names it.
+/// A network that is sought, and the text that names it.
 #[derive(Drop)]
 pub(crate) struct Sought {
     /// The text.
     pub text: Vec<u8>,
-    /// The address.
-    pub address: IpAddr,
+    /// The network, without host bits.
+    pub network: IpNetwork,
 }
 
-/// The addresses that these words name.
+/// The networks that these words name.
 pub(crate) fn sought_in_words(
     alloc: Global,
     words: &[String],
-    addresses: &[IpAddr],
+    networks: &[IpNetwork],
 ) -> Result<Vec<Sought>, AllocError>
-    requires { length addresses.now ≡ length words.now }
+    requires { length networks.now ≡ length words.now }
     ensures { IfOk result
-        (λ sought. map sought_as sought.items ≡ with_addresses words.now addresses.now) }
+        (λ sought. map sought_as sought.items ≡ with_networks words.now networks.now) }
 {
     let mut sought = Vec::new(alloc);
     for place in 0..words.len() {
         let text = words[place].as_str().as_bytes();
-        add(alloc, text, addresses[place], &mut sought)?;
+        add(alloc, text, networks[place], &mut sought)?;
     }
     Ok(sought)
 }
 
-/// Adds the addresses that the lines of lists name.
+/// Adds the networks that the lines of lists name.
 pub(crate) fn add_lines(
     alloc: Global,
     lists: &WholeLists<'_>,
@@ -60,47 +58,49 @@ pub(crate) fn add_lines(
     Ok(())
 }
 
-// Adds the address that a line names, if it names one.
+// Adds the network that a line names, if it names one.
 fn add_line(alloc: Global, line: &[u8], sought: &mut Vec<Sought>) -> Result<(), AllocError>
     ensures { OnOk result (map sought_as sought.new.items
         ≡ map sought_as sought.old.items ++ sought_of line.now) }
 {
     let text = trim::<Blank>(line);
-    match address_of(text) {
-        Some(address) => add(alloc, text, address, sought),
-        None => Ok(()),
+    match network_in(text) {
+        Ok(network) => add(alloc, text, network, sought),
+        Err(_) => Ok(()),
     }
 }
 
-// Adds an address.
+// Adds a network.
 fn add(
     alloc: Global,
     text: &[u8],
-    address: IpAddr,
+    network: IpNetwork,
     sought: &mut Vec<Sought>,
 ) -> Result<(), AllocError>
     ensures { OnOk result (map sought_as sought.new.items
-        ≡ map sought_as sought.old.items ++ (text.now, address) ∷ []) }
+        ≡ map sought_as sought.old.items ++ (text.now, network) ∷ []) }
 {
     let text = Vec::from_slice(alloc, text)?;
-    sought.push(Sought { text, address })?;
+    sought.push(Sought { text, network })?;
     Ok(())
 }
 
-// The address that a text names, if it names one.
-fn address_of(text: &[u8]) -> Option<IpAddr>
-    ensures { result ≡ ip_of text.now }
+/// The network that a text names, which is an address or a network, or why none is sought for it: it
+/// names none, or one with host bits.
+pub(crate) fn network_in(text: &[u8]) -> Result<IpNetwork, EntryFault>
+    ensures { result ≡ network_in text.now }
 {
     // Does nothing. The proof needs the law: what reading a text gives can be computed.
-    laws::ip_reading_is_computed();
-    match IpAddr::read_bytes(text) {
-        Ok(address) => Some(address),
-        Err(_) => None,
+    laws::ip_network_reading_is_computed();
+    match IpNetwork::read_bytes(text) {
+        Ok(network) if has_host_bits(&Entry::Network(network)) => Err(EntryFault::HostBits),
+        Ok(network) => Ok(network),
+        Err(_) => Err(EntryFault::Address),
     }
 }
 
-/// Reports the lines of lists that have something other than an address, and returns whether there
-/// are any.
+/// Reports the lines of lists that have something other than an address or a network without host
+/// bits, and returns whether there are any.
 pub(crate) fn tell_others<E: Write>(lists: &WholeLists<'_>, errors: &mut Output<'_, E>) -> bool
     ensures { result ≡ has_other (map (λ text. text.items) lists.now.texts.now) }
 {
@@ -113,29 +113,27 @@ pub(crate) fn tell_others<E: Write>(lists: &WholeLists<'_>, errors: &mut Output<
     told
 }
 
-// Reports a line if it has something other than an address, and returns whether it has.
+// Reports a line if it has something other than that, and returns whether it has.
 fn tell_other<E: Write>(line: &Line<'_>, errors: &mut Output<'_, E>) -> bool
     ensures { result ≡ is_other_line line.now.text.now }
 {
     let text = trim::<Blank>(line.text);
-    if !is_other(text) {
-        return false;
-    }
-    tell_refused(line, LineFault::Entry(other_cause(text)), errors);
-    true
-}
-
-// Why a text that names no address is refused: its encoding, if it is not plain text.
-fn other_cause(text: &[u8]) -> EntryFault {
-    match encoding_of(text) {
-        Some(encoding) => EntryFault::Encoding(encoding),
-        None => EntryFault::Address,
+    match network_in(text) {
+        Err(fault) if !text.is_empty() => {
+            let fault = LineFault::Entry(other_cause(text, fault));
+            tell_refused(line, fault, errors);
+            true
+        }
+        _ => false,
     }
 }
 
-// Whether a text is not empty and names no address.
-fn is_other(text: &[u8]) -> bool
-    ensures { result ≡ is_other text.now (ip_of text.now) }
-{
-    address_of(text).is_none() && !text.is_empty()
+// Why a text is refused: its encoding, if it is not plain text, or what is wrong in it.
+fn other_cause(text: &[u8], fault: EntryFault) -> EntryFault {
+    match (encoding_of(text), cause(text)) {
+        (Some(encoding), _) => EntryFault::Encoding(encoding),
+        (None, Some(CidrFault::Format)) => EntryFault::Format,
+        (None, Some(CidrFault::Prefix)) => EntryFault::Prefix,
+        (None, _) => fault,
+    }
 }

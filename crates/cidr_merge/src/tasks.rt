@@ -66,12 +66,12 @@ pub(crate) fn no_option(task: Task) -> &'static str {
             "not an option of union, common, minus or list; they take -e TEXT, --ranges, --count, \
              --format FORM, --set NAME, --table NAME, --maxelem N, --line-prefix TEXT, \
              --line-suffix TEXT, --allow-empty, --at-least N, --skip-bad, --json, \
-             --json-field NAME, --strict, --whole and --masks"
+             --json-field NAME, --strict, --whole, --masks, -4 and -6"
         }
         Task::Split => {
             "not an option of split; it takes -e TEXT, --prefix N, --line-prefix TEXT, \
              --line-suffix TEXT, --at-least N, --skip-bad, --json, --json-field NAME, --strict, \
-             --whole and --masks"
+             --whole, --masks, -4 and -6"
         }
         Task::Reduce => {
             "not an option of reduce; it takes --most N, --ipv4 N, --ipv6 N, --max-others N and \
@@ -83,7 +83,7 @@ pub(crate) fn no_option(task: Task) -> &'static str {
         Task::Free => {
             "not an option of free; it takes -e TEXT, --prefix N, --all, --line-prefix TEXT, \
              --line-suffix TEXT, --allow-empty, --skip-bad, --json, --json-field NAME, --strict, \
-             --whole and --masks"
+             --whole, --masks, -4 and -6"
         }
     }
 }
@@ -91,7 +91,7 @@ pub(crate) fn no_option(task: Task) -> &'static str {
 /// The message for a `--` with nothing before it.
 pub(crate) fn no_first(task: Task) -> &'static str {
     match task {
-        Task::Find => "no ADDRESS before it, and no --from FILE",
+        Task::Find => "no NETWORK before it, and no --from FILE",
         _ if is_two_sided(task) => "no FILE before it",
         _ => ONE_SIDE,
     }

@@ -1,9 +1,23 @@
 // Written by scripts/plain out of crates/cidr_merge/src/entry_match.rt
 
-//! The entries in the lines of lists, and the addresses they have.
+//! The entries in the lines of lists, and how they stand to networks.
 
-use fosibegan_core::ipnetwork::IpAddr;
+use crate::placed::ends_of;
+use fosibegan_core::ipnetwork::{IpAddr, IpNetwork};
 use cidr_programs::lists::{Entry, LINE_MAX, LineFault, read_entry};
+
+/// How an entry stands to a network.
+#[derive(Clone, Copy, Debug, PartialEq, Eq)]
+pub(crate) enum Relation {
+    /// It has all addresses of the network.
+    HasAll,
+    /// All its addresses are in the network, which has more.
+    LiesIn,
+    /// It has addresses of the network and others, and the network has more.
+    Meets,
+    /// It has no address of the network.
+    Apart,
+}
 
 /// Returns the entry of a line, if it has one, or why the line is refused.
 pub(crate) fn entry_of(line: &[u8]) -> Result<Option<Entry>, LineFault> {
@@ -17,13 +31,29 @@ pub(crate) fn entry_of(line: &[u8]) -> Result<Option<Entry>, LineFault> {
     }
 }
 
-/// Returns whether an entry has an address.
-pub(crate) fn has_address(entry: &Entry, address: &IpAddr) -> bool {
-    // Does nothing. The proof needs the law: the members of a network can be computed.
-    match entry {
-        Entry::Network(network) => network.contains(*address),
-        Entry::Range { first, last } => is_range(first, address) && is_range(address, last),
+/// Returns how an entry stands to a network.
+pub(crate) fn relation_of(entry: &Entry, network: &IpNetwork) -> Relation {
+    let ends = ends_of(entry);
+    let others = (network.network(), network.broadcast());
+    if !do_meet(&ends, &others) {
+        Relation::Apart
+    } else if has_all(&ends, &others) {
+        Relation::HasAll
+    } else if has_all(&others, &ends) {
+        Relation::LiesIn
+    } else {
+        Relation::Meets
     }
+}
+
+// Returns whether the addresses between two ends share one with those between two others.
+fn do_meet(ends: &(IpAddr, IpAddr), others: &(IpAddr, IpAddr)) -> bool {
+    is_range(&ends.0, &others.1) && is_range(&others.0, &ends.1)
+}
+
+// Returns whether the addresses between two ends have all those between two others.
+fn has_all(ends: &(IpAddr, IpAddr), others: &(IpAddr, IpAddr)) -> bool {
+    is_range(&ends.0, &others.0) && is_range(&others.1, &ends.1)
 }
 
 // Returns whether the addresses are of one family and the first is not greater than the last.

@@ -9,15 +9,16 @@ use crate::context::Context;
 use crate::faults::at;
 use crate::findings::either;
 use crate::help::{PROGRAM, USAGE};
-use crate::query::{Query, QueryFault, addresses_of};
+use crate::query::{Query, QueryFault, networks_of};
 use crate::reading::refuse_lists;
 use crate::searching::search_lists;
 use crate::sought::{add_lines, sought_in_words, tell_others};
 use crate::sought_places::places_of;
 use crate::texts::{WholeLists, texts_of};
-use fosibegan_core::ipnetwork::IpAddr;
+use fosibegan_core::plain_std::arrayvec::ArrayString;
+use fosibegan_core::ipnetwork::IpNetwork;
 use cidr_programs::lines::output::Output;
-use cidr_programs::lists::OpenLists;
+use cidr_programs::lists::{EntryFault, LineFault, OpenLists, meant};
 use cidr_programs::options::refusing::refuse;
 use cidr_programs::options::table::Row;
 use cidr_programs::program::command_line::text_at;
@@ -29,11 +30,11 @@ use fosibegan_core::plain_std::io::Write;
 /// The exit status if an entry was printed.
 const FOUND: u8 = 0;
 
-/// The exit status if no entry has a sought address.
+/// The exit status if no entry meets a sought network.
 const NOTHING_FOUND: u8 = 1;
 
-/// Runs a `find`, and returns the exit status. The first `middle` names are addresses, the next
-/// `from` name lists of addresses, and the others name the lists to search.
+/// Runs a `find`, and returns the exit status. The first `middle` names are addresses and
+/// networks, the next `from` name lists of such, and the others name the lists to search.
 pub(crate) fn find<L: OpenLists, W: Write, E: Write>(
     middle: usize,
     from: usize,
@@ -42,13 +43,13 @@ pub(crate) fn find<L: OpenLists, W: Write, E: Write>(
     output: &mut Output<'_, W>,
     errors: &mut Output<'_, E>,
 ) -> u8 {
-    match addresses_of(context.alloc, &context.names[..middle], 0) {
-        Ok(addresses) => find_all(middle, from, addresses.as_slice(), context, output, errors),
+    match networks_of(context.alloc, &context.names[..middle], 0) {
+        Ok(networks) => find_all(middle, from, networks.as_slice(), context, output, errors),
         Err(fault) => refuse_sought(rows, fault, context.names, errors),
     }
 }
 
-// Reports why words are not taken as addresses, and returns the exit status.
+// Reports why words are not taken as addresses and networks, and returns the exit status.
 fn refuse_sought<E: Write>(
     rows: &[Row],
     fault: QueryFault,
@@ -56,20 +57,44 @@ fn refuse_sought<E: Write>(
     errors: &mut Output<'_, E>,
 ) -> u8 {
     match fault {
-        QueryFault::NotAnAddress(place) => {
-            let fault = at(text_at(words, place), "not an address");
-            refuse(PROGRAM, USAGE, rows, &fault, errors)
+        QueryFault::Wrong(place, fault) => {
+            let word = text_at(words, place);
+            let problem = problem_of(word, fault);
+            refuse(PROGRAM, USAGE, rows, &at(word, problem.as_str()), errors)
         }
         QueryFault::OutOfMemory => refuse_memory(PROGRAM, errors),
     }
 }
 
-// Reads the lists, and prints the entries that have one of these addresses, or one of those in the
-// lists of addresses.
+/// The greatest length of a problem with a word: a network takes at most 49 bytes of it.
+const PROBLEM_MAX: usize = 96;
+
+// Why a word is not taken, and what would do in its place.
+fn problem_of(word: &str, fault: EntryFault) -> ArrayString<PROBLEM_MAX> {
+    let mut problem = ArrayString::new();
+    match meant(LineFault::Entry(fault), word.as_bytes()) {
+        Some(network) if fault == EntryFault::HostBits => {
+            add("a network with host bits (write ", &mut problem);
+            add(network.canonical().as_str(), &mut problem);
+            add(", or an address)", &mut problem);
+        }
+        _ => add("not an address or network", &mut problem),
+    }
+    problem
+}
+
+// Adds a text to a problem, if there is room for it.
+#[inline]
+fn add(text: &str, problem: &mut ArrayString<PROBLEM_MAX>) {
+    let _ = problem.try_push_str(text);
+}
+
+// Reads the lists, and prints the entries that meet one of these networks, or one of those in the
+// lists of networks.
 fn find_all<L: OpenLists, W: Write, E: Write>(
     middle: usize,
     from: usize,
-    addresses: &[IpAddr],
+    networks: &[IpNetwork],
     context: &Context<'_, L>,
     output: &mut Output<'_, W>,
     errors: &mut Output<'_, E>,
@@ -89,7 +114,7 @@ fn find_all<L: OpenLists, W: Write, E: Write>(
         names: list_names,
         texts: list_texts,
     };
-    match all_sought(context.alloc, &context.names[..middle], addresses, &froms) {
+    match all_sought(context.alloc, &context.names[..middle], networks, &froms) {
         Ok((query, mut buffer)) => {
             search(
                 &query,
@@ -104,14 +129,14 @@ fn find_all<L: OpenLists, W: Write, E: Write>(
     }
 }
 
-// The addresses that words name, and those of lists, and a buffer for as many places.
+// The networks that words name, and those of lists, and a buffer for as many places.
 fn all_sought(
     alloc: Global,
     words: &[String],
-    addresses: &[IpAddr],
+    networks: &[IpNetwork],
     froms: &WholeLists<'_>,
 ) -> Result<(Query, Vec<usize>), AllocError> {
-    let mut sought = sought_in_words(alloc, words, addresses)?;
+    let mut sought = sought_in_words(alloc, words, networks)?;
     add_lines(alloc, froms, &mut sought)?;
     let v4 = places_of(alloc, sought.as_slice(), false)?;
     let v6 = places_of(alloc, sought.as_slice(), true)?;
@@ -119,8 +144,8 @@ fn all_sought(
     Ok((Query { sought, v4, v6 }, buffer))
 }
 
-// Prints the entries that have a sought address, and reports the refused lines, those of the lists
-// of addresses first.
+// Prints the entries that meet a sought network, and reports the refused lines, those of the lists
+// of networks first.
 fn search<W: Write, E: Write>(
     query: &Query,
     buffer: &mut [usize],

@@ -70,7 +70,7 @@ fn find_free<W: Write, E: Write>(
 }
 
 // The message for pools of both families.
-const BOTH: &str = ": the FILEs before the -- have addresses of both families: ask for one each\n";
+const BOTH: &str = ": the FILEs before the -- have addresses of both families: see -4 and -6\n";
 
 // Whether the pools have networks of this length in both families.
 fn are_of_both(request: &FreeRequest, pools: &Sets) -> bool {

@@ -15,10 +15,10 @@ Merges lists of IP networks, and prints the shortest list with exactly the resul
     cidr_merge reduce [--most] N [OPTION..] FILE..  at most N networks with all of union, few others
     cidr_merge check  [--strict] FILE..             wrong entries; --strict: host bits, overlaps too
     cidr_merge overlaps FILE..                      wrong entries, and each pair that overlaps
-    cidr_merge find [--from FILE] ADDRESS.. -- FILE..  entries that have one; --from: or one of FILE
+    cidr_merge find [--from FILE] NETWORK.. -- FILE..  entries that meet one; --from: or one of FILE
     cidr_merge free --prefix N [--all] FILE.. -- FILE..  the first /N in minus; --all: each of them
 
-    -e TEXT        take this network or range as a FILE, with --json too
+    -e TEXT        take this network or range as a FILE, --json too; -4: only IPv4; -6: only IPv6
     --ranges       print FIRST - LAST of each run; --count: v4 BLOCKS ADDRESSES, v6 BLOCKS ADDRESSES
     --format FORM  print plain, range, netmask, wildcard, csv, nft, ipset, json or addresses
     --set NAME     fill NAME_ipv4 and NAME_ipv6; --table NAME: that of nft; --maxelem N: ipset limit
@@ -47,4 +47,4 @@ pub(crate) const PROGRAM: &str = "cidr_merge";
 /// What is reported for arguments that are not a command, after what is wrong with them.
 pub(crate) const USAGE: &str =
     "usage: cidr_merge union|common|minus|differ|list|split|reduce|check|overlaps|free \
-     [OPTION..] FILE.. [-- FILE..], or find [--from FILE] ADDRESS.. -- FILE..; try --help\n";
+     [OPTION..] FILE.. [-- FILE..], or find [--from FILE] NETWORK.. -- FILE..; try --help\n";

@@ -20,6 +20,7 @@ mod elements;
 mod entry_match;
 mod exporting;
 mod exports;
+mod families;
 mod faults;
 mod field_names;
 mod find;

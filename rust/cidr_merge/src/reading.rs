@@ -4,6 +4,8 @@
 
 use fosibegan_core::plain_std::string::String;
 use crate::context::Context;
+use crate::exports::Version;
+use crate::families::looked_at;
 use crate::help::PROGRAM;
 use crate::shapes::{Shape, read_one, rules_of};
 use fosibegan_core::ipnetwork::{Ipv4Network, Ipv6Network};
@@ -21,7 +23,8 @@ pub(crate) struct Sets {
     pub(crate) v6: AddressSet<Ipv6Network>,
 }
 
-/// Reads the lists of these names, in order; `first` is the index of the first of them.
+/// Reads the lists of these names, in order; `first` is the index of the first of them. The sets
+/// have the addresses of the families that are looked at.
 ///
 /// The refused lines are added to `refusals`, even if the reading ends with a fault.
 pub(crate) fn read_side<L: OpenLists>(
@@ -33,16 +36,21 @@ pub(crate) fn read_side<L: OpenLists>(
 ) -> (Sets, Refusals, Result<(), ReadFault>) {
     let mut reader = ListReader::new(context.alloc, rules_of(shape), refusals);
     let end = read_all(context, shape, names, first, &mut reader);
-    let (v4, v6, refusals) = into_sets(reader);
+    let sets = context.sets;
+    let (v4, v6, refusals) = into_sets(sets.only, reader);
     (Sets { v4, v6 }, refusals, end)
 }
 
-// Returns the sets of the addresses that were read, and the refused lines.
-fn into_sets(reader: ListReader) -> (AddressSet<Ipv4Network>, AddressSet<Ipv6Network>, Refusals) {
+// Returns the sets of the addresses that were read, of the families that are looked at, and the
+// refused lines.
+fn into_sets(
+    only: Option<Version>,
+    reader: ListReader,
+) -> (AddressSet<Ipv4Network>, AddressSet<Ipv6Network>, Refusals) {
     let (v4, v6, refusals) = reader.into_networks();
     (
-        AddressSet::from_networks(v4),
-        AddressSet::from_networks(v6),
+        AddressSet::from_networks(looked_at(only, Version::V4, v4)),
+        AddressSet::from_networks(looked_at(only, Version::V6, v6)),
         refusals,
     )
 }

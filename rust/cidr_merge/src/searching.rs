@@ -1,8 +1,8 @@
 // Written by scripts/plain out of crates/cidr_merge/src/searching.rt
 
-//! Searches lists for addresses.
+//! Searches lists for addresses and networks.
 
-use crate::entry_match::{entry_of, has_address};
+use crate::entry_match::{Relation, entry_of, relation_of};
 use crate::findings::{either, tell_line, tell_refused};
 use crate::numbered_lines::{Line, NumberedLines};
 use crate::query::Query;
@@ -22,7 +22,7 @@ pub(crate) struct Reported {
     pub told: bool,
 }
 
-/// Prints the entries of lists that have sought addresses, and reports the refused lines.
+/// Prints the entries of lists that meet sought networks, and reports the refused lines.
 pub(crate) fn search_lists<W: Write, E: Write>(
     query: &Query,
     buffer: &mut [usize],
@@ -68,7 +68,7 @@ fn search_line<W: Write, E: Write>(
     }
 }
 
-// Prints a line for each of the addresses sought that the entry of a line has.
+// Prints a line for each of the networks sought that the entry of a line meets.
 fn print_matches<W: Write>(
     query: &Query,
     buffer: &mut [usize],
@@ -86,7 +86,7 @@ fn print_matches<W: Write>(
     )
 }
 
-// Prints a line for each of the addresses at these places that the entry of a line has.
+// Prints a line for each of the networks at these places that the entry of a line meets.
 fn print_found<W: Write>(
     sought: &[Sought],
     places: &[usize],
@@ -108,22 +108,45 @@ fn print_found<W: Write>(
     printed
 }
 
-// Prints a line if the entry of a line has an address.
+// Prints how the entry of a line stands to a network, if they share an address.
 fn print_match<W: Write>(
     one: &Sought,
     line: &Line<'_>,
     entry: &Entry,
     output: &mut Output<'_, W>,
 ) -> bool {
-    if has_address(entry, &one.address) {
-        print_line(one.text.as_slice(), line, output);
-        true
-    } else {
-        false
+    let text = one.text.as_slice();
+    match relation_of(entry, &one.network) {
+        Relation::HasAll => print_relation(has_words(text), text, line, output),
+        Relation::LiesIn => print_relation(": lies in ", text, line, output),
+        Relation::Meets => print_relation(": meets ", text, line, output),
+        Relation::Apart => false,
     }
 }
 
-// Prints that the entry of a line has the address that a text names.
-fn print_line<W: Write>(text: &[u8], line: &Line<'_>, output: &mut Output<'_, W>) {
-    tell_line(line, ": has ", text, ": ", output);
+// Prints what the entry of a line is to the network of a text, and returns `true`: a line is
+// printed.
+fn print_relation<W: Write>(
+    what: &str,
+    text: &[u8],
+    line: &Line<'_>,
+    output: &mut Output<'_, W>,
+) -> bool {
+    tell_line(line, what, text, ": ", output);
+    true
+}
+
+// What is told of an entry that has all addresses of the network that a text names, which is an
+// address if it has no `/`.
+fn has_words(text: &[u8]) -> &'static str {
+    if has_slash(text) {
+        ": has all of "
+    } else {
+        ": has "
+    }
+}
+
+// Whether the text has a `/`.
+fn has_slash(text: &[u8]) -> bool {
+    text.iter().any(|byte| *byte == b'/')
 }

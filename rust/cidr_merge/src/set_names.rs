@@ -1,10 +1,12 @@
 // Written by scripts/plain out of crates/cidr_merge/src/set_names.rt
 
-//! The names of the sets that an export fills, their limit, the texts around each line, and the
-//! names of fields of JSON.
+//! The families that a result has, the names of the sets that an export fills, their limit, the
+//! texts around each line, and the names of fields of JSON.
 
 use fosibegan_core::plain_std::vec::Vec;
 use fosibegan_core::plain_std::string::String;
+use crate::exports::Version;
+use crate::families::only_of;
 use crate::field_names::fields_of;
 use crate::rows::{AFTER, BEFORE, MAXELEM, SET, TABLE};
 use fosibegan_core::plain_std::arrayvec::ArrayString;
@@ -26,10 +28,13 @@ const MOST_ELEMENTS: u64 = 4_294_967_295;
 /// The name of a set or a table.
 pub(crate) type Name = ArrayString<NAME_MAX>;
 
-/// The table of nftables, the beginning of both sets' names, how many elements a set of ipset is
-/// made for, the texts around each line, and the names of the fields of JSON that are read.
+/// The families that are looked at, the table of nftables, the beginning of both sets' names, how
+/// many elements a set of ipset is made for, the texts around each line, and the names of the
+/// fields of JSON that are read.
 #[derive(Debug)]
 pub struct SetNames<'a> {
+    /// The family that is looked at alone, if not both are.
+    pub only: Option<Version>,
     /// The table.
     pub table: Name,
     /// The beginning of `NAME_ipv4` and `NAME_ipv6`.
@@ -51,11 +56,12 @@ impl<'a> SetNames<'a> {
     }
 }
 
-/// Returns the names and texts that options give, with defaults for those not given. `AllocError`:
+/// Returns the family, names and texts that options give, with defaults for those not given. `AllocError`:
 /// out of memory.
 pub(crate) fn names_of<'a>(alloc: Global, items: &[Item<'a>]) -> Result<SetNames<'a>, AllocError> {
     let fields = fields_of(alloc, items)?;
     Ok(SetNames {
+        only: only_of(items),
         table: name_by(items, TABLE),
         set: name_by(items, SET),
         limit: limit_by(items),

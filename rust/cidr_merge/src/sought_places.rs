@@ -1,6 +1,7 @@
 // Written by scripts/plain out of crates/cidr_merge/src/sought_places.rt
 
-//! The places of addresses that are sought, by number: those that an entry has stand together.
+//! The places of networks that are sought, by the numbers of their ends: those that an entry meets
+//! are found without looking at the others.
 
 use fosibegan_core::plain_std::vec::Vec;
 use crate::placed::ends_of;
@@ -10,76 +11,130 @@ use fosibegan_core::ipnetwork::IpAddr;
 use cidr_programs::lists::Entry;
 use fosibegan_core::plain_std::alloc::{AllocError, Global};
 
-/// The number of an address, and its place among those that are sought.
-pub(crate) type Place = (u128, usize);
+/// The numbers of the first and the last address of a network, and its place among those that are
+/// sought.
+pub(crate) type Place = (u128, u128, usize);
 
-/// The places of the addresses of a family, IPv6 or IPv4, by ascending number.
-pub(crate) fn places_of(
-    alloc: Global,
-    sought: &[Sought],
-    of_v6: bool,
-) -> Result<Vec<Place>, AllocError> {
-    let mut places = Vec::new(alloc);
-    for place in 0..sought.len() {
-        let address = &sought[place].address;
-        if is_v6(address) != of_v6 {
-            continue;
-        }
-        places.push((number_of(address), place))?;
-    }
-    places.sort_unstable();
-    Ok(places)
+/// The places of the networks of a family.
+pub(crate) struct Places {
+    /// The places, by ascending numbers.
+    pub sorted: Vec<Place>,
+    /// For each of them the index after the last place before it that ends later. Of networks, that
+    /// is the least one that has all of its addresses and more.
+    pub outers: Vec<usize>,
 }
 
-/// Puts the places of the addresses that an entry has into the front of a buffer, ascending, and
+/// The places of the networks of a family, IPv6 or IPv4.
+pub(crate) fn places_of(alloc: Global, sought: &[Sought], of_v6: bool) -> Result<Places, AllocError> {
+    let mut sorted = Vec::new(alloc);
+    for place in 0..sought.len() {
+        let network = &sought[place].network;
+        let first = network.network();
+        if is_v6(&first) != of_v6 {
+            continue;
+        }
+        sorted.push((number_of(&first), number_of(&network.broadcast()), place))?;
+    }
+    sorted.sort_unstable();
+    let outers = outers_of(alloc, sorted.as_slice())?;
+    Ok(Places { sorted, outers })
+}
+
+// For each of places the index after the last place before it that ends later.
+fn outers_of(alloc: Global, places: &[Place]) -> Result<Vec<usize>, AllocError> {
+    let mut outers = Vec::new(alloc);
+    for at in 0..places.len() {
+        let outer = outer_of(places, outers.as_slice(), at);
+        outers.push(outer)?;
+    }
+    Ok(outers)
+}
+
+// The index after the last place before this one that ends later. Each step passes over all that
+// the place passed over, so that all places together take few steps.
+fn outer_of(places: &[Place], outers: &[usize], at: usize) -> usize {
+    let last = places[at].1;
+    let mut outer = at;
+    while outer > 0 && places[outer - 1].1 <= last {
+        outer = outers[outer - 1];
+    }
+    outer
+}
+
+/// Puts the places of the networks that an entry meets into the front of a buffer, ascending, and
 /// returns how many there are.
 pub(crate) fn put_found(query: &Query, entry: &Entry, buffer: &mut [usize]) -> usize {
     let (first, last) = ends_of(entry);
     let places = places_in(query, is_v6(&first));
-    let found = places_between(places, number_of(&first), number_of(&last));
+    let sorted = places.sorted.as_slice();
+    let first = number_of(&first);
+    let begin = first_from(sorted, first);
+    let count = put_reaching(sorted, places.outers.as_slice(), begin, first, buffer);
+    let found = up_to(&sorted[begin..], number_of(&last));
+    let total = put_all(found, count, buffer);
+    buffer[..total].sort_unstable();
+    total
+}
+
+// The places of the networks of a family, IPv6 or IPv4.
+fn places_in(query: &Query, of_v6: bool) -> &Places {
+    if of_v6 { &query.v6 } else { &query.v4 }
+}
+
+// Puts the places before an index whose networks reach a number into the front of a buffer, and
+// returns how many there are. Those that enclose one another are taken in turn, from the inmost.
+fn put_reaching(
+    places: &[Place],
+    outers: &[usize],
+    begin: usize,
+    first: u128,
+    buffer: &mut [usize],
+) -> usize {
+    let mut count = 0;
+    let mut end = begin;
+    while end > 0 {
+        if places[end - 1].1 >= first {
+            buffer[count] = places[end - 1].2;
+            count += 1;
+            end -= 1;
+        } else {
+            end = outers[end - 1];
+        }
+    }
+    count
+}
+
+// Puts all of these places into a buffer, after the first `count`, and returns how many there are
+// then.
+fn put_all(found: &[Place], count: usize, buffer: &mut [usize]) -> usize {
     for at in 0..found.len() {
-        buffer[at] = found[at].1;
+        buffer[count + at] = found[at].2;
     }
-    buffer[..found.len()].sort_unstable();
-    found.len()
-}
-
-// The places of the addresses of a family, IPv6 or IPv4.
-fn places_in(query: &Query, of_v6: bool) -> &[Place] {
-    if of_v6 {
-        query.v6.as_slice()
-    } else {
-        query.v4.as_slice()
-    }
-}
-
-// Those of places whose numbers are neither below the first nor above the last.
-fn places_between(places: &[Place], first: u128, last: u128) -> &[Place] {
-    up_to(from_first(places, first), last)
+    count + found.len()
 }
 
 /// How many bits are half of those of a number.
 const HALF: u32 = 64;
 
-// Those of places whose numbers are not below this one. The numbers of most entries end in zeros:
-// it is enough to search by half of the bits, which takes a third of the time.
-fn from_first(places: &[Place], first: u128) -> &[Place] {
-    let high = from_number(places, first, HALF);
+// The index of the first of places whose numbers are not below this one. The numbers of most
+// entries end in zeros: it is enough to search by half of the bits, which takes a third of the time.
+fn first_from(places: &[Place], first: u128) -> usize {
+    let high = first_by(places, first, HALF);
     if first % (1 << HALF) == 0 {
         high
     } else {
-        from_number(high, first, 0)
+        high + first_by(&places[high..], first, 0)
     }
 }
 
-// Those of places whose numbers are not below this one, if so many of the last bits are left out.
+// The index of the first of places whose numbers are not below this one, if so many of the last
+// bits are left out.
 #[inline(always)]
-fn from_number(places: &[Place], first: u128, bits: u32) -> &[Place] {
+fn first_by(places: &[Place], first: u128, bits: u32) -> usize {
     let first = first >> bits;
-    let count = places.partition_point(
+    places.partition_point(
         |place: &Place| -> bool { place.0 >> bits < first },
-    );
-    &places[count..]
+    )
 }
 
 // The first of places, up to this number.

@@ -5,6 +5,8 @@
 #![allow(unused_imports, unused_labels, unused_variables, dead_code)]
 #![allow(clippy::complexity, clippy::style, clippy::large_enum_variant, clippy::manual_contains,
     clippy::non_canonical_clone_impl)]
+// A value of JSON borrows its document here, so that its type has a lifetime, which the sources do not write.
+#![allow(unknown_lints, mismatched_lifetime_syntaxes)]
 
 pub mod allotting;
 pub mod line_addresses;

@@ -1,7 +1,7 @@
 -- The lines of lists that are still to come, as the code holds them.
 use Rattle.std.specs.Prelude.{ℕ, ◌+◌, List, ◌++◌, map}
 use Rattle.std.specs.Str.Lines.{lines}
-use Rattle.ipnetwork_addr.specs.declared.ip.IpAddr.{IpAddr}
+use Rattle.ipnetwork.specs.declared.ip_network.IpNetwork.{IpNetwork}
 use Rattle.cidr_merge.specs.NumberedLines.{NumberedLine, lines_from, numbered_lines}
 use Rattle.cidr_merge.specs.declared.numbered_lines.Line.{Line}
 use Rattle.cidr_merge.specs.declared.numbered_lines.NumberedLines.{NumberedLines}
@@ -18,10 +18,10 @@ lines_left left =
     lines_from left.list (1 + left.number) (lines left.lines.text.now)
     ++ numbered_lines left.next (map (λ text. text.items) left.texts.now)
 
--- a text and its address
-abbrev pub sought_as : Sought → List ℕ × IpAddr
-sought_as one = (one.text.items, one.address)
+-- a text and its network
+abbrev pub sought_as : Sought → List ℕ × IpNetwork
+sought_as one = (one.text.items, one.network)
 
--- the texts and addresses that are sought
-abbrev pub sought_in : Query → List (List ℕ × IpAddr)
+-- the texts and networks that are sought
+abbrev pub sought_in : Query → List (List ℕ × IpNetwork)
 sought_in query = map sought_as query.sought.items

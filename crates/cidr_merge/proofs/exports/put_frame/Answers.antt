@@ -8,43 +8,13 @@ returns-in-Nft-Head g c =
     rw (c.in-Nft-Head.is-0, c.in-Nft-Head.is-1, ← c.names.view_is, ← c.as_str-table.ensures.value)
     c.put_all-in-Nft-Head.ensures
 
-pub returns-in-Nft-FamilyHead : goal.returns-in-Nft-FamilyHead
-returns-in-Nft-FamilyHead g c =
-    rw (
-      c.in-Nft-FamilyHead.is-0,
-      c.in-Nft-FamilyHead.is-1,
-      ← c.names.view_is,
-      ← c.family_word-word.ensures,
-      ← c.address_type-addresses.ensures,
-      ← c.as_str-table.ensures.value,
-      ← c.as_str-set.ensures.value,
-    ) c.put_all-in-Nft-FamilyHead.ensures
-
 pub returns-in-Nft-Opening : goal.returns-in-Nft-Opening
 returns-in-Nft-Opening g c =
     rw (
       c.in-Nft-Opening.is-0,
       c.in-Nft-Opening.is-1,
       ← c.names.view_is,
-      ← c.family_word-word-in-Nft-Opening.ensures,
+      ← c.family_word-word.ensures,
       ← c.as_str-table.ensures.value,
       ← c.as_str-set.ensures.value,
     ) c.put_all-in-Nft-Opening.ensures
-
-pub returns-in-Ipset-Head : goal.returns-in-Ipset-Head
-returns-in-Ipset-Head g c =
-    rw (
-      c.in-Ipset-Head.is-0,
-      c.in-Ipset-Head.is-1,
-      ← c.names.view_is,
-      ← c.as_str-set.ensures.value,
-    ) c.put_all-in-Ipset-Head.ensures
-
-pub returns-in-Ipset-Foot : goal.returns-in-Ipset-Foot
-returns-in-Ipset-Foot g c =
-    rw (
-      c.in-Ipset-Foot.is-0,
-      c.in-Ipset-Foot.is-1,
-      ← c.names.view_is,
-      ← c.as_str-set.ensures.value,
-    ) c.put_all-in-Ipset-Foot.ensures

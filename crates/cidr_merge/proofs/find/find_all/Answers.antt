@@ -1,4 +1,4 @@
-use Rattle.cidr_merge.proofs.Known.{inl, refl, subst, take, take_rest, TextsStop, as_many_froms, as_many_lists, froms_within, names_within, searched, as_many_addresses}
+use Rattle.cidr_merge.proofs.Known.{inl, refl, subst, take, take_rest, TextsStop, as_many_froms, as_many_lists, froms_within, names_within, searched, as_many_networks}
 use Rattle.cidr_merge.proofs.find.find_all.Goals as goal
 
 pub split_at-requires : goal.split_at-requires
@@ -29,12 +29,12 @@ invariant_of-lists g c = record {
 
 pub all_sought-requires : goal.all_sought-requires
 all_sought-requires g c =
-    as_many_addresses (take c.args.middle c.args.context.now.names.now) c.args.addresses.now c.requires.addresses
+    as_many_networks (take c.args.middle c.args.context.now.names.now) c.args.networks.now c.requires.networks
 
 pub returns-in-Ok-all_sought : goal.returns-in-Ok-all_sought
 returns-in-Ok-all_sought g c = searched (g.L.OpenLists.known c.args.context.now.lists.now) _ _ _ _ (λ text. text.items)
     _ _ c.as_slice.ensures.value
-    (take_rest c.args.context.now.names.now c.args.middle) c.requires.words c.in-Ok.ensures.ok c.args.addresses.now
+    (take_rest c.args.context.now.names.now c.args.middle) c.requires.words c.in-Ok.ensures.ok c.args.networks.now
     c.args.output.now c.search.new.output c.search.result
     (rw (
       c.in-Ok-all_sought.ensures.sought,

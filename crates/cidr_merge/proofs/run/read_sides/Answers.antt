@@ -6,7 +6,7 @@ returns-in-Ok g c =
     let words = c.args.context.now.names.now in
     let seconds = c.read_side-second.result in
     let ends = sides_read seconds.2 (g.L.OpenLists.known c.args.context.now.lists.now)
-    c.args.context.now.sets.now.fields words c.lists_behind-others.result.now c.args.request c.read_side-first.result.0 seconds.0
+    c.args.context.now.sets.now.fields c.args.context.now.sets.now.only words c.lists_behind-others.result.now c.args.request c.read_side-first.result.0 seconds.0
     c.read_side-first.result.1 seconds.1 ((rw c.in-Ok.is at c.lists_behind-others.ensures)
     ∙ take_rest words c.args.request.middle)
     (rw (c.in-Ok.is, c.new-none.ensures) at c.read_side-first.ensures.read)

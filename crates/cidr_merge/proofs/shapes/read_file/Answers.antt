@@ -1,4 +1,4 @@
-use Rattle.cidr_merge.proofs.Known.{◌≡◌, ◌∙◌, ℕ, List, refl, ap, subst, Option, Some, None, Result, Ok, Err, OnOk, IfErr, Strings, ReadsDocument, StopsAtDocument, KnownLists, ReadLists, ReadFault, ReadsFile, StopsFile, strings_in}
+use Rattle.cidr_merge.proofs.Known.{◌≡◌, ◌∙◌, ℕ, List, refl, ap, subst, Option, Some, Result, Ok, Err, OnOk, IfErr, Strings, ReadsDocument, StopsAtDocument, KnownLists, ReadLists, ReadFault, ReadsFile, StopsFile, strings_in}
 use Rattle.cidr_merge.proofs.shapes.read_file.Goals as goal
 
 -- the strings of documents are read
