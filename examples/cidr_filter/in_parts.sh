@@ -1,7 +1,7 @@
 #!/usr/bin/env bash
 # Filters a large log by several processes: it is cut at line ends, and each part is filtered by
-# itself. What is printed, and the status, are those of the whole log (the law
-# `outputs_of_parts_follow` of `cidr_filter`).
+# itself. What is printed, and the status, are those of the whole log, which is tested
+# (`tests/in_parts`) and not proved.
 #
 # usage: examples/cidr_filter/in_parts.sh OPTION .. < LOG > SELECTED
 #

@@ -1,7 +1,6 @@
 #!/usr/bin/env python3
 """Joins a large log on the workers of dask, on one machine or on many: it is cut behind line feeds, and each part is
-joined by itself. What is printed is that of the whole log (the laws `outputs_of_parts_follow` and
-`tallies_of_parts_add_up` of `cidr_join`).
+joined by itself. What is printed is that of the whole log, which is tested (`tests/in_parts`) and not proved.
 
     examples/cidr_join/by_dask.py [--scheduler ADDRESS] [--block BYTES] OPTION.. < LOG > JOINED
 

@@ -1,6 +1,6 @@
 #!/usr/bin/env bash
 # Joins a large log by several processes: it is cut behind line feeds, and each part is joined by itself. What is printed
-# is that of the whole log (the laws `outputs_of_parts_follow` and `tallies_of_parts_add_up` of `cidr_join`).
+# is that of the whole log, which is tested (`tests/in_parts`) and not proved.
 #
 # usage: examples/cidr_join/in_parts.sh OPTION .. < LOG > JOINED
 #
