@@ -9,5 +9,6 @@ mod LawExamples
 mod Listings
 mod Masked
 mod Parsed
+mod Passed
 pub mod Known
 pub mod Words

@@ -34,7 +34,7 @@ impl Model for IpNetworkIterator {
 }
 
 impl IpNetworkIterator {
-    ghost use Rattle.std.specs.Prelude.{◌≡◌, map};
+    ghost use Rattle.std.specs.Prelude.{◌≡◌, ◌+◌, drop, map, slice_get};
     ghost use Rattle.ipnetwork_addr.specs.declared.ip.IpAddr.TheVariants as addresses;
 
     /// Creates an iterator over the members of an IPv4 network.
@@ -52,6 +52,26 @@ impl IpNetworkIterator {
     {
         IpNetworkIterator {
             members: Members::V6(members),
+        }
+    }
+
+    /// The member that comes after `n` others: the last of those that `n + 1` calls of `next`
+    /// return. `None` if at most `n` members are left; after that none is. Takes one step for any
+    /// `n`.
+    ///
+    /// ```
+    /// let mut members = "10.0.0.0/8".parse::<IpNetwork>()?.iter();
+    /// assert_eq!(rt; members.nth(65536), "10.1.0.0".parse().ok());
+    /// assert_eq!(rt; members.next(), "10.1.0.1".parse().ok());
+    /// assert_eq!(rt; members.nth(16_777_216), None);
+    /// ```
+    pub fn nth(&mut self, n: usize) -> Option<IpAddr>
+        ensures item { result ≡ slice_get self.old n }
+        ensures left { self.new ≡ drop (n + 1) self.old }
+    {
+        match &mut self.members {
+            Members::V4(members) => Some(IpAddr::V4(members.nth(n)?)),
+            Members::V6(members) => Some(IpAddr::V6(members.nth(n)?)),
         }
     }
 }

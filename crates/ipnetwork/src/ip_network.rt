@@ -31,8 +31,8 @@ pub enum IpNetwork {
     V6(Ipv6Network),
 }
 
-// The clause `network` tells proofs in other crates what holds for every network; they could not
-// know it otherwise, since its fields are private.
+// From the clause `network`, proofs in other crates know what holds for every network: they cannot
+// see its fields, which are private.
 impl IpNetwork {
     ghost use Rattle.ipnetwork.specs.IpNetworks.{IsIpNetwork, address_of, prefix_of, ip_mask_of, ip_low, ip_high, ip_size, ip_members, IpMember, IpSubnet, IpOverlap, Makes, MakesWithMask, IsV4, IsV6};
     ghost use Rattle.ipnetwork.specs.IpNetworkText.{ReadsIpNetwork, ParsesIpNetwork, ip_network_text};

@@ -247,7 +247,7 @@ pub printed_at_the_ends :
 unfolding digits
 printed_at_the_ends = refl
 
--- ---- what IPv4-mapped addresses stand for
+-- ---- the IPv4 addresses of IPv4-mapped addresses
 
 pub stand_for : map unmapped (V6 0xffff0a010101 ∷ V6 0x0a010101 ∷ V6 0x1ffff0a010101 ∷ V4 1 ∷ [])
     ≡ V4 0x0a010101 ∷ V6 0x0a010101 ∷ V6 0x1ffff0a010101 ∷ V4 1 ∷ []

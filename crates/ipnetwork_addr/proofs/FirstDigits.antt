@@ -3,7 +3,7 @@ use Rattle.ipnetwork_addr.proofs.Words.{◌≡◌, ◌≢◌, ℕ, zero, suc, �
 use Rattle.std.proofs.Common.{drop-drop}
 use Rattle.ipnetwork_addr.proofs.OctetFronts.{Value, two_digits, three_digits, no_octet_of_two, no_octet_of_three, no_end, no_octet_before, octet_before}
 
--- a byte's value is at most 9, or 256 if the byte is no digit
+-- a byte's value is at most 9, or 256 if the byte is not a digit
 value_cases : (a v : ℕ) → Value a v → (v ≤ 9) ⊎ (v ≡ 256)
 value_cases a v value = elim (cases_lt (digit_value a) 10) [
   | inl digit ↦ let k = value ∙ ap (λ b. cond b (digit_value a) 256) (lt-ltb (digit_value a) 10 digit) in

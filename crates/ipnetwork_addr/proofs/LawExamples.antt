@@ -200,7 +200,7 @@ pub no_dot_before_v6
     → (text : List ℕ) (address : ℕ) → ¬ (NamesV6 (46 ∷ text) address)
 no_dot_before_v6 law text address named = true≢false (sym (law (46 ∷ text) [] address named))
 
--- ---- what an IPv4-mapped address stands for
+-- ---- the IPv4 address of an IPv4-mapped address
 
 pub mapped_text : ((mapped address : ℕ) → unmapped (V6 mapped) ≡ V4 address
     → canonical_v6 mapped ≡ codes "::ffff:" ++ canonical_v4 address)

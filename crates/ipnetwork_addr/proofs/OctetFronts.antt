@@ -4,9 +4,9 @@ use Rattle.ipnetwork_addr.proofs.Octets.{BeginsWithDottedOctet}
 use Rattle.ipnetwork_addr.proofs.Ipv4Lemmas.{number_of, names_four, reading_of, same_after_a, same_after_b, same_after_c}
 use Rattle.ipnetwork_addr.proofs.PlainOctet.{plain_from_octet, octet_from_plain}
 
--- ---- an octet from the values of its bytes, 256 for a byte that is no digit
+-- ---- an octet from the values of its bytes, 256 for a byte that is not a digit
 
--- the value of a byte: 256 if it is no digit
+-- the value of a byte: 256 if it is not a digit
 abbrev pub Value : ℕ → ℕ → Type 0
 Value byte value = value ≡ cond (nat_lt (digit_value byte) 10) (digit_value byte) 256
 

@@ -132,7 +132,7 @@ most_lanes = 9 ∷ 9 ∷ 9 ∷ 254 ∷ 9 ∷ 9 ∷ 9 ∷ 254 ∷ 9 ∷ 9 ∷ 9 �
 abbrev lanes : List ℕ → ℕ → List ℕ
 lanes xs row = map (digit_in xs) (row_positions row)
 
--- the number that an octet's lanes stand for
+-- the number that an octet's lanes represent
 abbrev worth : List ℕ → ℕ → ℕ
 worth ds i = get_or ds i 0 * 100 + get_or ds (i + 1) 0 * 10 + get_or ds (i + 2) 0
 
@@ -347,7 +347,7 @@ weights_ok xs row ds is most =
     subst (λ (s : List ℕ). T (all_below 32768 (pair_sums (zip2 (λ x y. x * y) s weights)))) (sym is)
     (products_below (λ k. get_or (lanes xs row) k 0) (few_lanes (lanes xs row) (subst (AreAtLeast most_lanes) is most)))
 
--- the numbers that the lanes stand for
+-- the numbers that the lanes represent
 abbrev numbers : List ℕ → List ℕ
 numbers ds = pair_sums (pair_sums (zip2 (λ x y. x * y) ds weights))
 

@@ -52,13 +52,13 @@ pub use Rattle.std.proofs.lemmas.Bool.{agree_below_at, and_parts, cases_lt, cond
 pub use Rattle.std.proofs.lemmas.Bool.Decides.{Decides-eqb}
 pub use Rattle.std.proofs.lemmas.Fmt.{decimal_is_IsNumeral, length-decimal-le}
 pub use Rattle.std.proofs.lemmas.Int.Digits.{digits_more, digits_value_more, number_more, number_push}
-pub use Rattle.std.proofs.lemmas.List.{append_cancel_left, drop-drop, drop_at, drop_more, get_or-drop, get_or-take, get_or_at, length-set, length-take-le, take_all, take_at, take_more_set, take_rest}
+pub use Rattle.std.proofs.lemmas.List.{append_cancel_left, drop-drop, drop_all, drop_at, drop_more, get_or-drop, get_or-take, get_or_at, length-set, length-take-le, take_all, take_at, take_more_set, take_rest}
 pub use Rattle.std.proofs.lemmas.List.Folds.{concat-append}
 pub use Rattle.std.proofs.lemmas.List.FromFn.{get_or-range_with_len, length-range_with_len}
 pub use Rattle.std.proofs.lemmas.List.Sums.{sum_by-append, sum_by_more}
 pub use Rattle.std.proofs.lemmas.Nat.{and_block, and_le_l, and_le_r, div-mul-add, le_or_l, le_or_r, leading_le, leading_length, mod-pow-add, mul-le, or_block, or_lt, or_shifted, pow-add, pow_below, pow_pos, shr_split, xor_lt, xor_shr}
 pub use Rattle.std.proofs.lemmas.Nat.Bits.{and_high_mask, bit_at-lt, bit_at_and, bit_at_xor, ones_shr, same_from_bits}
-pub use Rattle.std.proofs.lemmas.Option.{none-some, same_Some, slice_get-get_or}
+pub use Rattle.std.proofs.lemmas.Option.{none-some, same_Some, slice_get-get_or, slice_get_past}
 pub use Rattle.std.proofs.lemmas.Result.{err_from_is_err_and}
 pub use Rattle.std.proofs.lemmas.Slice.Eq.{slice_eq-Decides}
 pub use Rattle.std.proofs.lemmas.Str.{IsCharBoundary-after_ascii, digit_value_digit}

@@ -11,7 +11,7 @@ use ipnetwork_addr::{ADDRESS_TEXT_CAPACITY, AddrParseError};
 use std::fmt::Debug;
 use std::hash::Hash;
 
-/// The addresses of one family. An address stands for a number of `WIDTH` bits and is ordered by
+/// The addresses of one family. An address represents a number of `WIDTH` bits and is ordered by
 /// it; a prefix length is the number of leading bits that are compared. No call allocates.
 ///
 /// ```
@@ -28,10 +28,10 @@ pub trait Address: Copy + Ord + Hash + Debug {
     // How addresses and prefix lengths are spelled.
     ghost family: { Family WIDTH };
 
-    // The number that an address stands for.
+    // The number that an address represents.
     ghost number: { Self → ℕ };
 
-    // The address that stands for a number.
+    // The address that represents a number.
     ghost of_number: { ℕ → Self };
 
     // An address is determined by its number.
@@ -80,12 +80,12 @@ pub trait Address: Copy + Ord + Hash + Debug {
         ensures short { (length result.bytes ≤ family.address_length)
             × (family.address_length ≤ ADDRESS_TEXT_CAPACITY) };
 
-    /// Does nothing. Its contract tells a proof that the texts of the family are unambiguous.
+    /// Does nothing. Its contract states that the texts of the family are unambiguous.
     #[doc(hidden)]
     fn law_texts()
         ensures { HasClearTexts WIDTH family };
 
-    /// Does nothing. Its contract tells a proof that the address's number has `WIDTH` bits.
+    /// Does nothing. Its contract states that the address's number has `WIDTH` bits.
     #[doc(hidden)]
     fn law_of_width(self)
         ensures { number self < 2 ^ WIDTH };
@@ -168,6 +168,15 @@ pub trait Address: Copy + Ord + Hash + Debug {
     fn plus(self, offset: u128) -> Self
         requires { number self + offset < 2 ^ WIDTH }
         ensures { number result ≡ number self + offset };
+
+    /// How many places `last` comes after this address. It must not come before it.
+    ///
+    /// ```
+    /// assert_eq!(rt; Ipv4Addr::new(192, 0, 2, 255).distance(Ipv4Addr::new(192, 0, 4, 0)), 257);
+    /// ```
+    fn distance(self, last: Self) -> u128
+        requires { number self ≤ number last }
+        ensures { result ≡ number last - number self };
 
     /// The number of leading bits that two addresses share: the greatest prefix length of a block
     /// that holds both.

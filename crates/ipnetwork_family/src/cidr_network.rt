@@ -7,7 +7,7 @@ use crate::{Address, Network};
 
 /// A network of addresses of `WIDTH` bits, for code that is generic over both families.
 ///
-/// An address stands for a number of `WIDTH` bits and is ordered by it. A network is an address,
+/// An address represents a number of `WIDTH` bits and is ordered by it. A network is an address,
 /// host bits included, and a prefix length, and is ordered by address, then by prefix length. No
 /// call allocates.
 ///
@@ -27,7 +27,7 @@ pub trait CidrNetwork: Copy + Ord {
     // The number of bits, as contracts see it.
     ghost WIDTH: { ℕ };
 
-    // The number that an address stands for.
+    // The number that an address represents.
     ghost number: { Self.Addr → ℕ };
 
     // The address and the prefix length of a network.

@@ -103,6 +103,10 @@ impl Address for Ipv4Addr {
         Ipv4Addr::from(u32::from(self) + offset as u32)
     }
 
+    fn distance(self, last: Ipv4Addr) -> u128 {
+        u128::from(u32::from(last) - u32::from(self))
+    }
+
     fn shared_bits(self, other: Ipv4Addr) -> u8 {
         (u32::from(self) ^ u32::from(other)).leading_zeros() as u8
     }

@@ -96,6 +96,10 @@ impl Address for Ipv6Addr {
         Ipv6Addr::from(u128::from(self) + offset)
     }
 
+    fn distance(self, last: Ipv6Addr) -> u128 {
+        u128::from(last) - u128::from(self)
+    }
+
     fn shared_bits(self, other: Ipv6Addr) -> u8 {
         (u128::from(self) ^ u128::from(other)).leading_zeros() as u8
     }

@@ -1,5 +1,5 @@
 //! Networks of one family in CIDR notation (RFC 4632, section 3.1): parsing, printing, and queries
-//! about the set of addresses that a network stands for.
+//! about the set of addresses that a network represents.
 //!
 //! Only calls that take an allocator allocate. A text is any slice of bytes.
 #![tactic(auto)]

@@ -1,4 +1,4 @@
--- What is concluded from the laws of the sets that networks stand for.
+-- What is concluded from the laws of the sets that networks represent.
 use Rattle.std.specs.Prelude.{◌≡◌, ℕ, ◌+◌, ◌<◌, ◌≤◌, ◌⊎◌, ◌↔◌, Contains, Some, slice_get}
 use Rattle.std.specs.List.Sorted.{IsStrictlyIncreasing}
 use Rattle.ipnetwork_family.specs.Network.{Network, IsNetwork, HostBitsAreZero, Member, Subnet, Overlap, IsNetworkAtMost}

@@ -11,7 +11,7 @@ ghost use Rattle.ipnetwork_blocks.specs.Ranges.{FromTo};
 ghost use Rattle.ipnetwork_family.specs.Network.{Network, IsNetwork, Member, Subnet, high};
 ghost use Rattle.ipnetwork_law_uses.specs.Sets.{IsTheLeast};
 ghost use Rattle.ipnetwork_sets.specs.Counts.{HasCount, total};
-ghost use Rattle.ipnetwork_sets.specs.Sets.{IsAddressSet, InBoth, InFirstAlone, InEither};
+ghost use Rattle.ipnetwork_sets.specs.Sets.{IsAddressSet, InBoth, InFirstAlone, InNetworkAlone, InEither};
 
 use ipnetwork_addr::{Ipv4Addr, Ipv6Addr};
 use ipnetwork_blocks::laws;
@@ -118,6 +118,17 @@ fn a_difference_is_least()
         → IsTheLeast 32 (InFirstAlone 32 a b) blocks }
     ensures v6 { (a b blocks : List Network) → IsLeastList 128 (InFirstAlone 128 a b) blocks
         → IsTheLeast 128 (InFirstAlone 128 a b) blocks }
+{
+    set_laws::shortest();
+}
+
+fn what_is_left_of_a_network_is_least()
+    ensures v4 { (n : Network) (a blocks : List Network)
+        → IsLeastList 32 (InNetworkAlone 32 n a) blocks
+        → IsTheLeast 32 (InNetworkAlone 32 n a) blocks }
+    ensures v6 { (n : Network) (a blocks : List Network)
+        → IsLeastList 128 (InNetworkAlone 128 n a) blocks
+        → IsTheLeast 128 (InNetworkAlone 128 n a) blocks }
 {
     set_laws::shortest();
 }

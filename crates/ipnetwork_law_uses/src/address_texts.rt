@@ -16,7 +16,7 @@ ghost use Rattle.ipnetwork_addr.specs.declared.ip.IpAddr.TheVariants.{V4, V6};
 
 use ipnetwork_addr::{AddrParseError, IpAddr, laws};
 
-// A text that names another address is no text of this one.
+// A text that names another address does not name this one.
 fn v4_text_is_of_no_other()
     ensures { (text : List ℕ) (a b : ℕ) → NamesV4 text a → a ≢ b → ¬ (NamesV4 text b) }
 {

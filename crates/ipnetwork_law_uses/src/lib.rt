@@ -2,7 +2,7 @@
 //! from it: for addresses, networks, sets and tables of both widths, or of either family.
 //!
 //! Nothing calls these functions, and no crate depends on this one. `tests/laws` empties each clause
-//! of each law in turn, and sees that a use of it is then not proved.
+//! of each law in turn, and checks that a use of it is then not proved.
 //! Where a check would prove a use without its law, the proof is written out and cites the law.
 #![tactic(auto)]
 

@@ -1,4 +1,4 @@
-//! What follows from the laws of the sets that networks stand for, over both widths.
+//! What follows from the laws of the sets that networks represent, for both widths.
 ghost use Rattle.std.specs.Prelude.{◌≡◌, ◌≢◌, ◌↔◌, ◌⊎◌, ◌+◌, ◌<◌, ◌≤◌, ℕ, IsTrue, Result, Ok, Some, slice_get, Contains};
 ghost use Rattle.std.specs.List.Sorted.{IsStrictlyIncreasing};
 ghost use Rattle.ipnetwork_family.specs.Computed.Network.{is_member, is_subnet, prefix_of_mask};

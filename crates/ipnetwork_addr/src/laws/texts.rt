@@ -98,14 +98,14 @@ pub fn v6_text_has_a_colon_first()
         → colon_first (text ++ rest) ≡ true }
 {}
 
-/// The canonical text of an IPv4-mapped address is `::ffff:` and that of the IPv4 address that it
-/// stands for.
+/// The canonical text of an IPv4-mapped address is `::ffff:`, followed by that of the IPv4 address
+/// that it represents.
 pub fn mapped_text_ends_in_its_v4()
     ensures { (mapped address : ℕ) → unmapped (V6 mapped) ≡ V4 address
         → canonical_v6 mapped ≡ codes "::ffff:" ++ canonical_v4 address }
 {}
 
-/// For each IPv4 address, an IPv4-mapped address, one in `::ffff:0:0/96`, stands for it.
+/// Each IPv4 address is represented by an IPv4-mapped address, one in `::ffff:0:0/96`.
 pub fn each_v4_has_its_mapped()
     ensures { (address : ℕ) → address < 2 ^ 32
         → unmapped (V6 (0xffff * 2 ^ 32 + address)) ≡ V4 address }

@@ -42,6 +42,27 @@ impl IpNetworkIterator {
             members: Members::V6(members),
         }
     }
+
+    /// The member that comes after `n` others: the last of those that `n + 1` calls of `next`
+    /// return. `None` if at most `n` members are left; after that none is. Takes one step for any
+    /// `n`.
+    ///
+    /// ```
+    /// # use fosibegan_core::in_examples::*;
+    /// # ended(|| {
+    /// let mut members = "10.0.0.0/8".parse::<IpNetwork>()?.iter();
+    /// assert_eq!(members.nth(65536), "10.1.0.0".parse().ok());
+    /// assert_eq!(members.next(), "10.1.0.1".parse().ok());
+    /// assert_eq!(members.nth(16_777_216), None);
+    /// # Ok(())
+    /// # });
+    /// ```
+    pub fn nth(&mut self, n: usize) -> Option<IpAddr> {
+        match &mut self.members {
+            Members::V4(members) => Some(IpAddr::V4(members.nth(n)?)),
+            Members::V6(members) => Some(IpAddr::V6(members.nth(n)?)),
+        }
+    }
 }
 
 impl Iterator for IpNetworkIterator {

@@ -36,8 +36,8 @@ pub enum IpNetwork {
     V6(Ipv6Network),
 }
 
-// The clause `network` tells proofs in other crates what holds for every network; they could not
-// know it otherwise, since its fields are private.
+// From the clause `network`, proofs in other crates know what holds for every network: they cannot
+// see its fields, which are private.
 impl IpNetwork {
     /// Creates a network from an address, whose host bits are kept, and a prefix length. Returns
     /// `InvalidPrefix` if that exceeds the number of bits of the address, 32 or 128.

@@ -69,7 +69,7 @@ impl IpAddr {
         }
     }
 
-    /// Returns the IPv4 address that an IPv4-mapped address, one in `::ffff:0:0/96`, stands for
+    /// Returns the IPv4 address that an IPv4-mapped address, one in `::ffff:0:0/96`, represents
     /// (RFC 4291, section 2.5.5.2), and any other address unchanged.
     ///
     /// ```

@@ -5,7 +5,7 @@
 use crate::ipnetwork_blocks::address_space::AddressSpace;
 
 /// Returns block number `number` of this prefix length within the network: the one that
-/// [`subnets`](crate::subnets) yields after `number` others. Returns `None` if `prefix` is shorter
+/// [`subnets`](crate::ipnetwork_blocks::subnets) yields after `number` others. Returns `None` if `prefix` is shorter
 /// than the network's own prefix length n or greater than `WIDTH`, or if `number` is not below
 /// 2^(`prefix` - n). Takes a few steps, whatever the number.
 ///

@@ -7,7 +7,7 @@ use crate::ipnetwork_addr::{ADDRESS_TEXT_CAPACITY, AddrParseError};
 use core::fmt::Debug;
 use core::hash::Hash;
 
-/// The addresses of one family. An address stands for a number of `WIDTH` bits and is ordered by
+/// The addresses of one family. An address represents a number of `WIDTH` bits and is ordered by
 /// it; a prefix length is the number of leading bits that are compared. No call allocates.
 ///
 /// ```
@@ -59,11 +59,11 @@ pub trait Address: Copy + Ord + Hash + Debug + InnerAddress {
     /// ```
     fn canonical(&self) -> ArrayString<ADDRESS_TEXT_CAPACITY>;
 
-    /// Does nothing. Its contract tells a proof that the texts of the family are unambiguous.
+    /// Does nothing. Its contract states that the texts of the family are unambiguous.
     #[doc(hidden)]
     fn law_texts();
 
-    /// Does nothing. Its contract tells a proof that the address's number has `WIDTH` bits.
+    /// Does nothing. Its contract states that the address's number has `WIDTH` bits.
     #[doc(hidden)]
     fn law_of_width(self);
 
@@ -138,4 +138,7 @@ pub(crate) trait InnerAddress: Copy + Ord + Hash + Debug {
     /// The address `offset` places after this one. It must not exceed the last address of the
     /// family.
     fn plus(self, offset: u128) -> Self;
+
+    /// How many places `last` comes after this address. It must not come before it.
+    fn distance(self, last: Self) -> u128;
 }

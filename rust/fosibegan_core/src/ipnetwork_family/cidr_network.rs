@@ -6,7 +6,7 @@ use crate::ipnetwork_family::{Address, Network};
 
 /// A network of addresses of `WIDTH` bits, for code that is generic over both families.
 ///
-/// An address stands for a number of `WIDTH` bits and is ordered by it. A network is an address,
+/// An address represents a number of `WIDTH` bits and is ordered by it. A network is an address,
 /// host bits included, and a prefix length, and is ordered by address, then by prefix length. No
 /// call allocates.
 ///

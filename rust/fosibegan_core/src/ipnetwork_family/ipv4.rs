@@ -108,6 +108,11 @@ impl crate::ipnetwork_family::address::InnerAddress for Ipv4Addr {
     fn plus(self, offset: u128) -> Ipv4Addr {
         Ipv4Addr::from(u32::from(self) + offset as u32)
     }
+
+    #[inline]
+    fn distance(self, last: Ipv4Addr) -> u128 {
+        u128::from(u32::from(last) - u32::from(self))
+    }
 }
 
 /// The number with ones in all bits after the first `prefix`.

@@ -101,6 +101,11 @@ impl crate::ipnetwork_family::address::InnerAddress for Ipv6Addr {
     fn plus(self, offset: u128) -> Ipv6Addr {
         Ipv6Addr::from(u128::from(self) + offset)
     }
+
+    #[inline]
+    fn distance(self, last: Ipv6Addr) -> u128 {
+        u128::from(last) - u128::from(self)
+    }
 }
 
 /// The number with ones in all bits after the first `prefix`.

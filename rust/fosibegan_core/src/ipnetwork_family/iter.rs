@@ -37,6 +37,39 @@ impl<A: Address> NetworkIterator<A> {
             is_done: false,
         }
     }
+
+    /// The member that comes after `n` others: the last of those that `n + 1` calls of `next`
+    /// return. `None` if at most `n` members are left; after that none is. Takes one step for any
+    /// `n`.
+    ///
+    /// ```
+    /// # use fosibegan_core::in_examples::*;
+    /// # ended(|| {
+    /// let mut members = "10.0.0.0/8".parse::<Ipv4Network>()?.iter();
+    /// assert_eq!(members.nth(65536), Some(Ipv4Addr::new(10, 1, 0, 0)));
+    /// assert_eq!(members.next(), Some(Ipv4Addr::new(10, 1, 0, 1)));
+    /// assert_eq!(members.nth(16_777_216), None);
+    /// # Ok(())
+    /// # });
+    /// ```
+    pub fn nth(&mut self, n: usize) -> Option<A> {
+        if self.is_done {
+            return None;
+        }
+        self.last.law_of_width();
+        let left = self.next.distance(self.last);
+        if left < n as u128 {
+            self.is_done = true;
+            return None;
+        }
+        let item = self.next.plus(n as u128);
+        if same(item, self.last) {
+            self.is_done = true;
+        } else {
+            self.next = item.next();
+        }
+        Some(item)
+    }
 }
 
 impl<A: Address> Iterator for NetworkIterator<A> {

@@ -14,8 +14,8 @@ use core::fmt;
 use core::str::FromStr;
 
 /// An address, host bits included, and a prefix length from 0 to `A::WIDTH`: 32 for IPv4, 128 for
-/// IPv6. It stands for the set of all addresses that have the same leading bits as the address, as
-/// many as the prefix length. Networks are ordered by address, then by prefix length.
+/// IPv6. It represents the set of all addresses whose leading bits, as many as the prefix length,
+/// are those of the address. Networks are ordered by address, then by prefix length.
 ///
 /// ```
 /// # use fosibegan_core::in_examples::*;
@@ -39,8 +39,8 @@ impl<A: Address> Clone for Network<A> {
     }
 }
 
-// The clause `network` tells a proof in another crate that each network is valid: such a proof
-// cannot see the private fields. The calls that these proofs begin with have the clause.
+// From the clause `network`, a proof in another crate knows that each network is valid: it cannot
+// see the private fields. The calls that such proofs begin with have the clause.
 impl<A: Address> Network<A> {
     /// The network with this address, host bits kept, and this prefix length; `None` if the prefix
     /// length is greater than `A::WIDTH`.

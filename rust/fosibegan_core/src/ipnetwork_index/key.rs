@@ -37,6 +37,7 @@ pub(crate) trait InnerKey: Copy {
 }
 
 impl Key for u32 {
+    #[inline]
     fn is_less(self, other: u32) -> bool {
         self < other
     }
@@ -48,6 +49,7 @@ impl Key for u32 {
 }
 
 impl InnerKey for u32 {
+    #[inline]
     fn part_of(self, base: u32, shift: u32, last: usize) -> usize {
         let part = usize::try_from(self.saturating_sub(base) >> shift).unwrap_or(usize::MAX);
         part.min(last)
@@ -55,6 +57,7 @@ impl InnerKey for u32 {
 }
 
 impl Key for u64 {
+    #[inline]
     fn is_less(self, other: u64) -> bool {
         self < other
     }
@@ -66,6 +69,7 @@ impl Key for u64 {
 }
 
 impl InnerKey for u64 {
+    #[inline]
     fn part_of(self, base: u64, shift: u32, last: usize) -> usize {
         let part = usize::try_from(self.saturating_sub(base) >> shift).unwrap_or(usize::MAX);
         part.min(last)
@@ -73,6 +77,7 @@ impl InnerKey for u64 {
 }
 
 impl Key for u128 {
+    #[inline]
     fn is_less(self, other: u128) -> bool {
         self < other
     }
@@ -84,6 +89,7 @@ impl Key for u128 {
 }
 
 impl InnerKey for u128 {
+    #[inline]
     fn part_of(self, base: u128, shift: u32, last: usize) -> usize {
         let part = self.saturating_sub(base) >> shift;
         part.min(last as u128) as usize

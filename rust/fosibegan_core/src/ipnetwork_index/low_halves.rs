@@ -4,6 +4,7 @@
 
 use crate::plain_std::vec::Vec;
 use crate::plain_std::vec;
+use crate::ipnetwork_index::block_ends::{block_ends, place_by_word};
 use crate::plain_std::alloc::{AllocError, Global};
 use crate::plain_std::simd::prelude::*;
 
@@ -17,6 +18,9 @@ pub(crate) struct LowHalves {
     pub(crate) starts: Vec<u32>,
     // Each part has 2 ^ shift numbers, at most 2 ^ 16.
     pub(crate) shift: u32,
+    // What `block_ends` writes, for the numbers as the last ones of ranges: the places of most
+    // addresses, if there are many.
+    pub(crate) words: Vec<u64>,
 }
 
 impl LowHalves {
@@ -26,6 +30,7 @@ impl LowHalves {
             lows: Vec::new(alloc),
             starts: Vec::new(alloc),
             shift: 0,
+            words: Vec::new(alloc),
         }
     }
 
@@ -33,17 +38,34 @@ impl LowHalves {
     pub(crate) fn of(alloc: Global, numbers: &[u32], shift: u32) -> Result<Self, AllocError> {
         let starts = starts_of(alloc, numbers, shift)?;
         let lows = lows_of(alloc, numbers)?;
+        let words = block_ends(alloc, numbers)?;
         Ok(LowHalves {
             lows,
             starts,
             shift,
+            words,
         })
     }
 
-    /// The place of the first of the numbers that is not less than this one. Not inlined, since in
-    /// a caller's loop the lesser of two numbers would be found by a branch.
-    #[inline(never)]
+    /// The place of the first of the numbers that is not less than this one: that which a word
+    /// gives, if there is one.
+    #[inline(always)]
     pub(crate) fn place_of(&self, number: u32) -> usize {
+        let part = (number >> 13) as usize;
+        let words = self.words.as_slice();
+        if part < words.len() {
+            let word = words[part];
+            if word != 0 {
+                return place_by_word(word, number / 256 % 32);
+            }
+        }
+        self.place_by_lows(number)
+    }
+
+    // `place_of`, among the low halves. Not inlined, since in a caller's loop the lesser of two
+    // numbers would be found by a branch.
+    #[inline(never)]
+    fn place_by_lows(&self, number: u32) -> usize {
         let part = (number >> self.shift) as usize;
         let low = (number % 65536) as u16;
         let lows = self.lows.as_slice();
@@ -118,7 +140,7 @@ fn write_starts(numbers: &[u32], shift: u32, starts: &mut [u32]) {
 }
 
 // How many of the numbers lie before the part, given that those before `from` do.
-fn first_of(numbers: &[u32], from: usize, part: usize, shift: u32) -> usize {
+pub(crate) fn first_of(numbers: &[u32], from: usize, part: usize, shift: u32) -> usize {
     let mut at = from;
     while at < numbers.len() && ((numbers[at] >> shift) as usize) < part {
         at += 1;

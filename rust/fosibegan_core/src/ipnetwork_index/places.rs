@@ -56,9 +56,9 @@ impl<N: IndexedNetwork> Places<N> {
     }
 }
 
-// Whether there are so many ranges that low halves are worth it, and those without a 64th at either
-// end extend over a fourth of all numbers: otherwise most of them could lie in one part. Only
-// numbers of at most 32 bits have low halves.
+// Whether there are enough ranges for low halves to be worth it, and the ranges without a 64th of
+// them at either end extend over a fourth of all numbers: otherwise most of them could lie in one
+// part. Only numbers of at most 32 bits have low halves.
 fn are_many_and_spread<N: IndexedNetwork>(lasts: &[N::Addr]) -> bool {
     if N::WIDTH > 32 {
         return false;

@@ -7,7 +7,7 @@ use crate::ipnetwork_sets::joining::join_around;
 use crate::ipnetwork_sets::place::place_of;
 use crate::ipnetwork_sets::replacing::{make_room, write_over};
 use crate::ipnetwork_sets::search::covers;
-use crate::ipnetwork_blocks::{AddressSpace, exclude};
+use crate::ipnetwork_blocks::{AddressSpace, aggregate_vec, exclude};
 use crate::plain_std::alloc::AllocError;
 
 /// Adds the addresses of the network to the set with these blocks, and returns whether any of them
@@ -19,6 +19,16 @@ pub(crate) fn insert<N: AddressSpace>(blocks: &mut Vec<N>, network: N) -> Result
     make_room(blocks, found.0, found.1, 1)?;
     blocks[found.0] = found.2;
     Ok(true)
+}
+
+/// Adds the addresses of the networks to the set with these blocks.
+pub(crate) fn insert_all<N: AddressSpace>(
+    blocks: &mut Vec<N>,
+    networks: &[N],
+) -> Result<(), AllocError> {
+    blocks.extend_from_slice(networks)?;
+    aggregate_vec(blocks);
+    Ok(())
 }
 
 // The block that replaces the network and the blocks from the first index up to, but not including,

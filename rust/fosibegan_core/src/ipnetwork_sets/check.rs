@@ -35,7 +35,7 @@ pub fn is_address_set<N: AddressSpace, H: HoldsNetwork<N>>(list: &[H]) -> bool {
 
 // Whether the network has no host bits.
 fn has_no_host_bits<N: AddressSpace>(network: N) -> bool {
-    network.ip() == network.network()
+    N::WIDTH - network.prefix() <= N::trailing_zeros(network.ip())
 }
 
 // Whether the second begins after the first ends, and the two are not the halves of one block.
@@ -46,11 +46,12 @@ fn follows<N: AddressSpace>(first: N, second: N) -> bool {
 /// Whether two blocks that differ are the halves of one block.
 pub(crate) fn are_halves<N: AddressSpace>(first: N, second: N) -> bool {
     let prefix = first.prefix();
-    if prefix == 0 || second.prefix() != prefix {
+    let other_prefix = second.prefix();
+    if prefix == 0 || other_prefix != prefix {
         return false;
     }
-    match N::block(first.ip(), prefix - 1) {
-        Some(whole) => whole.contains(second.ip()),
-        None => false,
-    }
+    let one = first.ip();
+    let other = second.ip();
+    let shared = N::shared_bits(one, other);
+    prefix - 1 <= shared
 }

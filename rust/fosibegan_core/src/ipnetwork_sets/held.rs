@@ -14,3 +14,10 @@ pub(crate) fn split_held<'a, N: AddressSpace, H: HoldsNetwork<N>>(
     };
     Some(((*first).held_network(), others))
 }
+
+/// The values after the first if `skips` is true, else all of them. Without a branch, since nothing
+/// predicts which of two lists is the next to be skipped in.
+#[inline(always)]
+pub(crate) fn skip_first_if<'a, H>(list: &'a [H], skips: bool) -> &'a [H] {
+    &list[usize::from(skips)..]
+}

@@ -1,6 +1,6 @@
 // Written by scripts/plain out of crates/ipnetwork_sets/src/joining.rt
 
-//! Joining a network that is added to a set with the blocks beside it.
+//! Joining a network that is added to a set with the blocks next to it.
 
 use crate::ipnetwork_sets::check::are_halves;
 use crate::ipnetwork_blocks::{AddressSpace, block};

@@ -150,14 +150,17 @@ impl<'a> Reader<'a> {
             self.members.push(Member { key, value });
         }
         sort(&mut self.members[start..]);
-        let count = self.members[start..].chunk_by(Member::has_same_key).count();
+        let repeated = self.members[start..].windows(2).filter(|pair| pair[0].has_same_key(&pair[1])).count();
+        let count = self.members.len() - start - repeated;
         let mut members: Vec<(Text<'a>, Value<'a>)> = Vec::new();
         members.try_reserve_exact(count).map_err(AllocError::from)?;
         let mut last = None;
         for member in self.members.drain(start..) {
             // Of a key that occurs more than once, only the last member keeps its value.
             match members.last_mut() {
-                Some(place) if last.is_some_and(|key| texts::order(key, member.key).is_eq()) => place.1 = member.value,
+                Some(place) if matches!(last, Some(key) if texts::order(key, member.key).is_eq()) => {
+                    place.1 = member.value;
+                }
                 _ => members.push((Text::of(member.key)?, member.value)),
             }
             last = Some(member.key);

@@ -1,14 +1,33 @@
-// Written by scripts/plain out of crates/ipnetwork_table/src/values.rt
+// Written by scripts/plain out of crates/ipnetwork_table/src/table/values.rt
 
-//! The ordered map that holds the values of a table.
+//! The ordered map that holds the values of a table, and the searches that are made in it.
 
 use crate::ipnetwork_table::entries::Entries;
 use crate::ipnetwork_family::CidrNetwork;
 use crate::plain_std::alloc::{AllocError, Global};
 use crate::plain_std::collections::BTreeMap;
 
-/// Values by network. Searches for a key that change nothing are counted: `probe` and `last_up_to`
-/// add one to the count that they are given.
+/// How many searches were made in a map. Only a table begins such a count and sees its number, only
+/// `Values` adds to it, and it can be neither copied nor dropped.
+pub(crate) struct Searches {
+    number: u32,
+}
+
+impl Searches {
+    /// No search yet.
+    pub(super) fn none() -> Searches {
+        Searches { number: 0 }
+    }
+
+    /// Ends the count.
+    pub(super) fn end(self) -> u32 {
+        let Searches { number } = self;
+        number
+    }
+}
+
+/// Values by network. Each search for a key that changes nothing adds one to the count that it is
+/// given.
 #[derive(Clone)]
 pub(crate) struct Values<N: CidrNetwork, V: Copy> {
     tree: BTreeMap<N, V>,
@@ -25,15 +44,15 @@ impl<N: CidrNetwork, V: Copy> Values<N, V> {
         self.tree.len()
     }
 
-    /// The value of one network, if any. Counts one step.
-    pub(crate) fn probe(&self, steps: &mut u32, key: N) -> Option<V> {
-        *steps += 1;
+    /// The value of one network, if any: one search.
+    pub(crate) fn probe(&self, searches: &mut Searches, key: N) -> Option<V> {
+        searches.number += 1;
         self.tree.get(&key).copied()
     }
 
-    /// The last network that does not come after `end`, and its value. Counts one step.
-    pub(crate) fn last_up_to(&self, steps: &mut u32, end: N) -> Option<(N, V)> {
-        *steps += 1;
+    /// The last network that does not come after `end`, and its value: one search.
+    pub(crate) fn last_up_to(&self, searches: &mut Searches, end: N) -> Option<(N, V)> {
+        searches.number += 1;
         let (last, value) = self.tree.range(..=end).next_back()?;
         Some((*last, *value))
     }
