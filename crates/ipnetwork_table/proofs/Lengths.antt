@@ -1,7 +1,6 @@
 -- How many stored blocks have a given prefix length.
-use Rattle.ipnetwork_table.proofs.Words.{◌≡◌, ◌≢◌, ℕ, ◌+◌, ◌-◌, ◌<◌, ◌≤◌, ◌==◌, Bool, true, false, cond, List, [], ◌∷◌, length, get_or, set, slice_get, is_some, Option, Some, None, sym, refl, ap, ◌∙◌, arith, IsSome, MatchBool, nat_lt, eq_by_cmp, FinMap, get, insert, remove, empty, len, entries, from_entries, retain_keys, get-empty, get-entries, get-from_entries, get-insert, get-remove, get-retain_keys, len-empty, len-entries, len-insert, len-remove, empty_of_len, same_map, Decides-eqb, Decides-ltb, get_or-set_same, get_or-set_other, Network, network_cmp, count_of_length, CountsLengths, SomeHasLength, NoneHasLength}
+use Rattle.ipnetwork_table.proofs.Words.{◌≡◌, ◌≢◌, ℕ, ◌+◌, ◌-◌, ◌<◌, ◌≤◌, ◌==◌, Bool, true, false, cond, List, [], ◌∷◌, length, get_or, set, is_some, Option, Some, None, sym, refl, ap, ◌∙◌, arith, IsSome, eq_by_cmp, FinMap, get, insert, remove, empty, len, entries, from_entries, retain_keys, get-empty, get-entries, get-from_entries, get-insert, get-remove, get-retain_keys, len-empty, len-entries, len-insert, len-remove, empty_of_len, same_map, Decides-eqb, get_or-set_same, get_or-set_other, Network, network_cmp, count_of_length, CountsLengths, IsLastUsedUpTo, NoneUsedUpTo, NoneAbove, NoneHolds, cases_lt, ⊎_elim}
 use Rattle.ipnetwork_table.proofs.Keys.{nothing}
-use Rattle.ipnetwork_table.proofs.Listing.{listed_is_stored}
 use Rattle.ipnetwork_table.proofs.Pairs.{total, one_network, tie_of}
 
 one_more_at_most : (b : Bool) (n : ℕ) → cond b n (n + 1) ≤ n + 1
@@ -65,27 +64,6 @@ module _ {V : Type 0} (test : Network → Bool) where
       → is_some (get (retain_keys t test) m) ≡ cond (test m) (is_some (get t m)) false
   key_kept t m = ap is_some (kept t m) ∙ elim (test m) as (λ b. is_some (cond b (get t m) None) ≡ cond b
       (is_some (get t m)) false) [ true ↦ refl | false ↦ refl ]
-
-  kept_is_there : (t : FinMap network_cmp V) (m : Network) → IsSome (get (retain_keys t test) m)
-      → IsSome (get t m) × (test m ≡ true)
-  kept_is_there t m stays = elim (test m) as (λ b. test m ≡ b → cond b (is_some (get t m)) false ≡ true
-      → IsSome (get t m) × (test m ≡ true)) [
-        | true ↦ λ passes stored. (stored, passes)
-        | false ↦ λ fails stored. absurd (nothing stored)
-      ] refl (sym (key_kept t m) ∙ stays)
-
-  -- if the number of keys that pass is greater than 0, some key passes
-  one_of_them : (t : FinMap network_cmp V) → 0 < len (retain_keys t test) → (m : Network) × IsSome (get t m)
-      × (test m ≡ true)
-  one_of_them t some = first_of_them (entries (retain_keys t test)) refl where
-    first_of_them : (es : List (Network × V)) → entries (retain_keys t test) ≡ es → (m : Network) × IsSome (get t m)
-        × (test m ≡ true)
-    first_of_them [] none = absurd (let number : len (retain_keys t test) ≡ 0 = len-entries (retain_keys t test)
-        ∙ ap length none in omega (arith, number, some))
-    first_of_them (e ∷ es) is =
-        let there = kept_is_there t e.0 (ap is_some
-        (listed_is_stored (retain_keys t test) 0 e.0 e.1 (ap (λ (l : List (Network × V)). slice_get l 0) is))) in
-        (e.0, there.0, there.1)
 
   -- ---- the number of keys that pass
 
@@ -173,28 +151,25 @@ module _ {V : Type 0} (t : FinMap network_cmp V) (counts : List ℕ) (counted : 
       let some = some_kept (λ n. n.prefix == m.prefix) t m ((Decides-eqb m.prefix m.prefix).1 refl) stored in
       omega (arith, is, some)
 
-  pub some_of_length : (p : ℕ) → p < 256 → 0 < get_or counts p 0 → SomeHasLength t p
-  some_of_length p within some =
-      let is = counted p within in
-      let one = one_of_them (λ n. n.prefix == p) t (omega (arith, is, some)) in
-      (one.0, one.1, (Decides-eqb one.0.prefix p).0 one.2)
+  -- if each stored block that holds x has at most c bits, it has at most as many as the last prefix length in use up to c
+  pub none_above_used : (w x c d : ℕ) → c < 256 → NoneAbove w t x c → IsLastUsedUpTo counts c d → NoneAbove w t x d
+  none_above_used w x c d fits above last n stored beyond holds = ⊎_elim
+      (λ (more : c < n.prefix). above n stored more holds)
+      (λ (few : n.prefix ≤ c).
+      let none = last.2 n.prefix beyond few in
+      let some = is_counted n (omega (arith, few, fits)) stored in
+      omega (arith, none, some))
+      (cases_lt c n.prefix)
 
-  pub none_of_length : (p : ℕ) → p < 256 → get_or counts p 0 ≡ 0 → NoneHasLength t p
-  none_of_length p within none n stored at =
-      let above : 0 < get_or counts n.prefix 0 = is_counted n (omega (arith, at, within)) stored in
-      let same : get_or counts n.prefix 0 ≡ 0 = ap (λ q. get_or counts q 0) at ∙ none in
-      omega (arith, above, same)
-
-  pub tells_length : (p : ℕ) → p < 256
-      → MatchBool (nat_lt 0 (get_or counts p 0)) (SomeHasLength t p) (NoneHasLength t p)
-  tells_length p within =
-      let number = get_or counts p 0 in
-      elim (nat_lt 0 number) as (λ b. nat_lt 0 number ≡ b → MatchBool b (SomeHasLength t p) (NoneHasLength t p)) [
-        | true ↦ λ some. some_of_length p within ((Decides-ltb 0 number).0 some)
-        | false ↦ λ none.
-            let not_above : 0 < number → ⊥ = λ above. nothing (sym none ∙ (Decides-ltb 0 number).1 above) in
-            none_of_length p within (omega (arith, not_above))
-      ] refl
+  -- and if there is none up to c, no stored block holds x
+  pub none_used_holds : (w x c : ℕ) → c < 256 → NoneAbove w t x c → NoneUsedUpTo counts c → NoneHolds w t x
+  none_used_holds w x c fits above unused n stored holds = ⊎_elim
+      (λ (more : c < n.prefix). above n stored more holds)
+      (λ (few : n.prefix ≤ c).
+      let none = unused n.prefix few in
+      let some = is_counted n (omega (arith, few, fits)) stored in
+      omega (arith, none, some))
+      (cases_lt c n.prefix)
 
   -- if the block is new, fewer blocks have its prefix length than there are blocks after the insertion
   pub room_for_one : (m : Network) (v : V) → m.prefix < 256 → get t m ≡ None

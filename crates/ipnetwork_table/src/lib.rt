@@ -8,8 +8,8 @@ mod common_bits;
 mod counts;
 mod entries;
 pub mod laws;
+mod lookups;
 mod table;
-mod values;
 
 pub use entries::Entries;
 pub use table::PrefixTable;

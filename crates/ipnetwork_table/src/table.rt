@@ -1,25 +1,25 @@
 //! A table of values by block.
-ghost use Rattle.std.specs.Prelude.{◌≡◌, ℕ, ◌+◌, ◌^◌, ◌<◌, ◌≤◌, OnOk, OnErr, IfOk, None, MatchOption, ◌↔◌, IsTrue, IsSome, MatchBool};
+ghost use Rattle.std.specs.Prelude.{◌≡◌, ◌+◌, ◌≤◌, OnOk, OnErr, IfOk, None, MatchOption, ◌↔◌, IsTrue, IsSome};
 ghost use Rattle.std.specs.FinMap as map;
 ghost use Rattle.ipnetwork_family.specs.Network.{HostBitsAreZero, block_of};
-ghost use Rattle.ipnetwork_table.specs.Table.{HasOnlyBlocks, NoneHolds, Finds, by_pair};
-ghost use Rattle.ipnetwork_table.specs.Private.Lengths.{SomeHasLength, NoneHasLength};
-ghost use Rattle.ipnetwork_table.specs.Private.Nearest.{NoneAbove};
+ghost use Rattle.ipnetwork_table.specs.Table.{HasOnlyBlocks, Finds, by_pair};
 
-use crate::common_bits::shared_length;
+mod values;
+
 use crate::counts::{count_one_less, count_one_more};
 use crate::entries::Entries;
-use crate::values::Values;
+use crate::lookups::{longest_holding, longest_in_turn};
 use ipnetwork_family::{CidrNetwork, laws};
 use std::alloc::{AllocError, Global};
 use std::fmt;
 use std::fmt::{Debug, Formatter, Write};
 use std::marker::Model;
+pub(crate) use values::{Searches, Values};
 
 /// Values by block, and look-ups of the longest block that holds an address (RFC 4632, section
 /// 5.1). All networks of a table are of one family.
 ///
-/// A network given as a key stands for its block: its host bits are cleared. Only `insert`
+/// A network given as a key represents its block: its host bits are cleared. Only `insert`
 /// allocates.
 ///
 /// ```
@@ -63,8 +63,15 @@ fn key_of<N: CidrNetwork>(net: N) -> N
     block
 }
 
-// The clause `blocks` tells a proof in another crate that each key is a network without host bits:
-// such a proof cannot see the private fields.
+// Ends a count of searches, of which there are no more than this.
+fn end_within(searches: Searches, most: u32)
+    requires { searches ≤ most }
+{
+    let _ = searches.end();
+}
+
+// From the clause `blocks`, a proof in another crate knows that each key is a network without host
+// bits: it cannot see the private fields.
 impl<N: CidrNetwork, V: Copy> PrefixTable<N, V> {
     /// The empty table.
     ///
@@ -120,8 +127,10 @@ impl<N: CidrNetwork, V: Copy> PrefixTable<N, V> {
         ensures value { result ≡ map.get self.now (block_of N.WIDTH (N.pair net)) }
         ensures blocks { HasOnlyBlocks N.WIDTH self.now }
     {
-        let mut steps = 0;
-        self.values.probe(&mut steps, key_of(net))
+        let mut searches = Searches::none();
+        let value = self.values.probe(&mut searches, key_of(net));
+        end_within(searches, 1);
+        value
     }
 
     /// Whether the block of `net` has a value.
@@ -230,13 +239,6 @@ impl<N: CidrNetwork, V: Copy> PrefixTable<N, V> {
         Some(old)
     }
 
-    // Whether some stored block has this prefix length.
-    fn has_length(&self, length: u8) -> bool
-        ensures { MatchBool result (SomeHasLength self.now length) (NoneHasLength self.now length) }
-    {
-        self.used[length as usize] > 0
-    }
-
     /// The stored block with the greatest prefix length that holds the address, and its value;
     /// `None` if no stored block holds the address.
     ///
@@ -250,55 +252,10 @@ impl<N: CidrNetwork, V: Copy> PrefixTable<N, V> {
         ensures answer { Finds N.pair N.WIDTH self.now (N.number addr) result }
         ensures blocks { HasOnlyBlocks N.WIDTH self.now }
     {
-        let mut steps = 0;
-        self.counted_lookup(&mut steps, addr)
-    }
-
-    // `lookup`, which also counts the searches in the map: at most `WIDTH + 1`. The first finds the
-    // last stored block that does not come after the address. If that block holds the address, it
-    // is the longest that does, since a longer one would come after it. If not, the address shares
-    // fewer bits with it than its prefix length, and no block with more bits than these holds the
-    // address.
-    fn counted_lookup(&self, steps: &mut u32, addr: N::Addr) -> Option<(N, V)>
-        requires { steps.old + 256 < 2 ^ 32 }
-        ensures answer { Finds N.pair N.WIDTH self.now (N.number addr) result }
-        ensures blocks { HasOnlyBlocks N.WIDTH self.now }
-        ensures at_most { steps.new ≤ steps.old + N.WIDTH + 1 }
-    {
-        let Some(end) = N::block(addr, N::WIDTH) else {
-            unreachable!()
-        };
-        let (near, value) = self.values.last_up_to(steps, end)?;
-        if near.contains(addr) {
-            return Some((near, value));
-        }
-        self.longest_up_to(steps, addr, shared_length(end, near))
-    }
-
-    // `lookup`, given that no stored block with a prefix length above `most` holds the address:
-    // tries the blocks of the other prefix lengths in turn, except those that no stored block has.
-    fn longest_up_to(&self, steps: &mut u32, addr: N::Addr, most: u8) -> Option<(N, V)>
-        requires within { most ≤ N.WIDTH }
-        requires none_above { NoneAbove N.WIDTH self.now (N.number addr) most }
-        requires room { steps.old + most + 1 < 2 ^ 32 }
-        ensures answer { Finds N.pair N.WIDTH self.now (N.number addr) result }
-        ensures at_most { steps.new ≤ steps.old + most + 1 }
-    {
-        let mut length = most;
-        'shorter: loop {
-            if self.has_length(length) {
-                let Some(block) = N::block(addr, length) else {
-                    unreachable!()
-                };
-                if let Some(value) = self.values.probe(steps, block) {
-                    return Some((block, value));
-                }
-            }
-            if length == 0 {
-                return None;
-            }
-            length -= 1;
-        }
+        let mut searches = Searches::none();
+        let found = longest_holding(&self.values, &self.used, &mut searches, addr);
+        end_within(searches, u32::from(N::WIDTH) + 1);
+        found
     }
 
     /// What `lookup` returns, and the number of look-ups in the map needed to try the block of each
@@ -319,20 +276,9 @@ impl<N: CidrNetwork, V: Copy> PrefixTable<N, V> {
         ensures steps { MatchOption result.0 (result.1 ≡ N.WIDTH + 1)
             (λ found. result.1 + (N.pair found.0).prefix ≡ N.WIDTH + 1) }
     {
-        let mut steps = 0;
-        let mut prefix = N::WIDTH;
-        'shorter: loop {
-            let Some(block) = N::block(addr, prefix) else {
-                unreachable!()
-            };
-            if let Some(value) = self.values.probe(&mut steps, block) {
-                return (Some((block, value)), steps);
-            }
-            if prefix == 0 {
-                return (None, steps);
-            }
-            prefix -= 1;
-        }
+        let mut searches = Searches::none();
+        let found = longest_in_turn(&self.values, &mut searches, addr);
+        (found, searches.end())
     }
 }
 

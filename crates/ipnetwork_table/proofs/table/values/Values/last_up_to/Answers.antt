@@ -1,5 +1,5 @@
 use Rattle.ipnetwork_table.proofs.Known.{◌∙◌, rules, NoneUpTo, none_up_to, is_last_up_to, value_at}
-use Rattle.ipnetwork_table.proofs.values.Values.last_up_to.Goals as goal
+use Rattle.ipnetwork_table.proofs.table.values.Values.last_up_to.Goals as goal
 
 pub returns-in_err-last-clause-network : goal.returns-in_err-last-clause-network
 returns-in_err-last-clause-network g c =

@@ -1,11 +1,11 @@
 use Rattle.ipnetwork_table.proofs.Known.{◌≡◌, ◌+◌, ◌≤◌, NoneAbove}
-use Rattle.ipnetwork_table.proofs.table.PrefixTable.lookup_steps.Given as goal
+use Rattle.ipnetwork_table.proofs.lookups.longest_in_turn.Given as goal
 
 abbrev pub invariant-shorter : goal.invariant-shorter
 invariant-shorter g l = record {
   within : l.prefix ≤ g.N.CidrNetwork.WIDTH;
-  counted : l.steps + l.prefix ≡ g.N.CidrNetwork.WIDTH;
-  none_above : NoneAbove g.N.CidrNetwork.WIDTH l.self-inside.values (g.N.CidrNetwork.number l.addr) l.prefix;
+  counted : l.searches + l.prefix ≡ l.initial.searches + g.N.CidrNetwork.WIDTH;
+  none_above : NoneAbove g.N.CidrNetwork.WIDTH l.values (g.N.CidrNetwork.number l.addr) l.prefix;
 }
 
 abbrev pub decreases-shorter : goal.decreases-shorter

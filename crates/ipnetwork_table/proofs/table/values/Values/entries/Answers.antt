@@ -1,5 +1,5 @@
 use Rattle.ipnetwork_table.proofs.Known.{◌∙◌, ap, by_pair, listed}
-use Rattle.ipnetwork_table.proofs.values.Values.entries.Goals as goal
+use Rattle.ipnetwork_table.proofs.table.values.Values.entries.Goals as goal
 
 pub returns : goal.returns
 returns g c = rw (← c.self.view_is)

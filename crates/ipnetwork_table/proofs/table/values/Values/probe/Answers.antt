@@ -1,5 +1,5 @@
 use Rattle.ipnetwork_table.proofs.Known.{◌∙◌, sym, value_at}
-use Rattle.ipnetwork_table.proofs.values.Values.probe.Goals as goal
+use Rattle.ipnetwork_table.proofs.table.values.Values.probe.Goals as goal
 
 pub returns-clause-found : goal.returns-clause-found
 returns-clause-found g c = rw (← c.self.view_is)

@@ -1,5 +1,5 @@
 use Rattle.ipnetwork_table.proofs.Known.{◌≡◌, ◌∙◌, sym, None, rules, get, value_at, inserted}
-use Rattle.ipnetwork_table.proofs.values.Values.insert.Goals as goal
+use Rattle.ipnetwork_table.proofs.table.values.Values.insert.Goals as goal
 
 pub returns-in_err-insert-clause-absent : goal.returns-in_err-insert-clause-absent
 returns-in_err-insert-clause-absent g c =

@@ -1,5 +1,5 @@
 use Rattle.ipnetwork_table.proofs.Known.{◌∙◌, sym, value_at, removed}
-use Rattle.ipnetwork_table.proofs.values.Values.remove.Goals as goal
+use Rattle.ipnetwork_table.proofs.table.values.Values.remove.Goals as goal
 
 pub returns-clause-old : goal.returns-clause-old
 returns-clause-old g c = rw (← c.self.view_is)

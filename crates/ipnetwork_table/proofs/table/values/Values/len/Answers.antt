@@ -1,5 +1,5 @@
 use Rattle.ipnetwork_table.proofs.Known.{◌∙◌, counted}
-use Rattle.ipnetwork_table.proofs.values.Values.len.Goals as goal
+use Rattle.ipnetwork_table.proofs.table.values.Values.len.Goals as goal
 
 pub returns : goal.returns
 returns g c = rw (← c.self.view_is)

@@ -1,4 +1,4 @@
-//! The ordered map that holds the values of a table.
+//! The ordered map that holds the values of a table, and the searches that are made in it.
 ghost use Rattle.std.specs.Prelude.{◌≡◌, ℕ, ◌+◌, ◌<◌, ◌^◌, OnOk, OnErr, IfOk, IfSome, None, MatchOption};
 ghost use Rattle.std.specs.FinMap as map;
 ghost use Rattle.ipnetwork_table.specs.Table.{by_pair};
@@ -10,8 +10,40 @@ use std::alloc::{AllocError, Global};
 use std::collections::BTreeMap;
 use std::marker::Model;
 
-/// Values by network. Searches for a key that change nothing are counted: `probe` and `last_up_to`
-/// add one to the count that they are given.
+/// How many searches were made in a map. Only a table begins such a count and sees its number, only
+/// `Values` adds to it, and it can be neither copied nor dropped.
+pub(crate) struct Searches {
+    number: u32,
+}
+
+// In contracts, searches are their number.
+impl Model for Searches {
+    ghost Value = { ℕ };
+
+    ghost view = { λ s. s.number };
+
+    ghost inverse = { λ n. record { number = n } };
+}
+
+impl Searches {
+    /// No search yet.
+    pub(super) fn none() -> Searches
+        ensures { result ≡ 0 }
+    {
+        Searches { number: 0 }
+    }
+
+    /// Ends the count.
+    pub(super) fn end(self) -> u32
+        ensures { result ≡ self }
+    {
+        let Searches { number } = self;
+        number
+    }
+}
+
+/// Values by network. Each search for a key that changes nothing adds one to the count that it is
+/// given.
 #[derive(Drop)]
 pub(crate) struct Values<N: CidrNetwork, V: Copy> {
     tree: BTreeMap<N, V>,
@@ -45,25 +77,25 @@ impl<N: CidrNetwork, V: Copy> Values<N, V> {
         self.tree.len()
     }
 
-    /// The value of one network, if any. Counts one step.
-    pub(crate) fn probe(&self, steps: &mut u32, key: N) -> Option<V>
-        requires { steps.old + 1 < 2 ^ 32 }
+    /// The value of one network, if any: one search.
+    pub(crate) fn probe(&self, searches: &mut Searches, key: N) -> Option<V>
+        requires { searches.old + 1 < 2 ^ 32 }
         ensures found { result ≡ map.get self.now (N.pair key) }
-        ensures counted { steps.new ≡ steps.old + 1 }
+        ensures counted { searches.new ≡ searches.old + 1 }
     {
-        *steps += 1;
+        searches.number += 1;
         self.tree.get(&key).copied()
     }
 
-    /// The last network that does not come after `end`, and its value. Counts one step.
-    pub(crate) fn last_up_to(&self, steps: &mut u32, end: N) -> Option<(N, V)>
-        requires { steps.old + 1 < 2 ^ 32 }
+    /// The last network that does not come after `end`, and its value: one search.
+    pub(crate) fn last_up_to(&self, searches: &mut Searches, end: N) -> Option<(N, V)>
+        requires { searches.old + 1 < 2 ^ 32 }
         ensures network { MatchOption result (NoneUpTo self.now (N.pair end))
             (λ last. IsLastUpTo self.now (N.pair end) (N.pair last.0)) }
         ensures value { IfSome result (λ last. map.get self.now (N.pair last.0) ≡ Some last.1) }
-        ensures counted { steps.new ≡ steps.old + 1 }
+        ensures counted { searches.new ≡ searches.old + 1 }
     {
-        *steps += 1;
+        searches.number += 1;
         let (last, value) = self.tree.range(..=end).next_back()?;
         Some((*last, *value))
     }
