@@ -1,4 +1,6 @@
+pub mod AnswerColumns
 pub mod Answering
+pub mod BlockEnding
 pub mod Chains
 pub mod Counting
 pub mod Cutting
@@ -16,7 +18,6 @@ pub mod RangeCounts
 pub mod Searching
 pub mod Starting
 pub mod Sweeping
-pub mod Telling
 pub mod TurnExamples
 pub mod Turning
 pub mod Words

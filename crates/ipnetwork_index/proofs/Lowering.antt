@@ -35,8 +35,8 @@ low_by_least a x same least = omega arith
 
 -- ---- the search in the part of a number
 
-module _ (w : ℕ) (lows starts : List ℕ) (shift : ℕ) (numbers : List ℕ)
-    (h : AreLowHalvesOf w lows starts shift numbers) (x : ℕ) (short : x < 2 ^ 32) where
+module _ (w : ℕ) (lows starts : List ℕ) (shift : ℕ) (words numbers : List ℕ)
+    (h : AreLowHalvesOf w lows starts shift words numbers) (x : ℕ) (short : x < 2 ^ 32) where
   next_part : x / 2 ^ shift + 1 < length starts
   next_part = h.known.reach x short
 

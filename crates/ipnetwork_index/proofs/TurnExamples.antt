@@ -1,6 +1,5 @@
 -- Where a set and a table of 3-bit addresses are cut: between 1 and 2 and between 3 and 4 for the set of 2 and 3;
--- before
--- and after 4 and 5 for a table with that block.
+-- before 4 and after 5 for a table with the block of 4 and 5.
 use Rattle.ipnetwork_index.proofs.Words.{◌≡◌, ℕ, zero, suc, ◌+◌, ◌<◌, ◌≤◌, inl, inr, refl, subst, arith, ⊎_elim, [], ◌∷◌, get_or, cases_lt, FinMap, get, Contains, contains_cons, contains_head, contains_nil, contains_tail, Network, low, high, network_cmp, IsTurn, CutInto, HasEdge, IsEdge, CutByBlocks, HasCount}
 use Rattle.std.specs.Prelude.{IsSome}
 

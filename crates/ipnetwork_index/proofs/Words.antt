@@ -13,6 +13,7 @@ pub use Rattle.ipnetwork_index.specs.Entries.{HasBlocksOf, HasLastValues, HasVal
 pub use Rattle.ipnetwork_index.specs.Halves.{IsLastOf}
 pub use Rattle.ipnetwork_index.specs.NumberParts.{HasParts, IsPart}
 pub use Rattle.ipnetwork_index.specs.Private.Answers.{AreAnswers, AreAnswersUpTo, AreNone, IsAnswered, IsFound, IsMadeOf, Tells, TellsAt}
+pub use Rattle.ipnetwork_index.specs.Private.BlockEnds.{AllLieAt, AreTellingUpTo, IsScanned, place_told}
 pub use Rattle.ipnetwork_index.specs.Private.Cuts.{AreCutsOf, Closes, EndsBefore, EndsWhole, Rises, before, cuts_of}
 pub use Rattle.ipnetwork_index.specs.Private.Edges.{CutsOut, IsCutOut, edges_of}
 pub use Rattle.ipnetwork_index.specs.Private.Halved.{AllAreLast}
@@ -36,7 +37,7 @@ pub use Rattle.ipnetwork_table.specs.Laws.{EntriesAscend, ListedIsStored, Stored
 pub use Rattle.ipnetwork_table.specs.Table.{Finds, HasOnlyBlocks, IsLongest, NoneHolds, by_pair}
 pub use Rattle.std.proofs.Common.{Bool, IsSome, IsTrue, List, None, Option, Ordering, Some, T, [], ap, append_assoc, arith, cond, eqb, false, get_or, inl, inr, is_some, leb, length, length-append, map, min, not, refl, replicate, set, slice_get, slice_set, subst, suc, sym, take, true, true≢false, w16, zero, ℕ, ⊎_elim, ◌%◌, ◌&&◌, ◌*◌, ◌++◌, ◌+◌, ◌-◌, ◌/◌, ◌<◌, ◌^◌, ◌↔◌, ◌∙◌, ◌∷◌, ◌≡◌, ◌≢◌, ◌≤◌, ◌⊎◌}
 pub use Rattle.std.proofs.Math.Bool.{beq}
-pub use Rattle.std.proofs.Math.Nat.{div-div-eq-div-mul, mod-eq_of_lt, mul-le-mul_right, mul-suc, mul-zero, pow-le-pow_right, two-pow-succ}
+pub use Rattle.std.proofs.Math.Nat.{add-mul-mod_self_left, div-div-eq-div-mul, mod-eq_of_lt, mul-le-mul_right, mul-suc, mul-zero, mul_assoc, pow-le-pow_right, two-pow-succ}
 pub use Rattle.std.proofs.Math.Pow.{pow_mono, shr_mono}
 pub use Rattle.std.proofs.Math.Seq.{take-append_seam}
 pub use Rattle.std.proofs.lemmas.Bool.{agree_below_at, cases_eq, cases_lt, eqb-true, le-leb, leb-false, leb-true, lt-leb}
@@ -47,7 +48,7 @@ pub use Rattle.std.proofs.lemmas.List.Elements.{All-contains, All-contains_itsel
 pub use Rattle.std.proofs.lemmas.List.Filters.{dedup_is}
 pub use Rattle.std.proofs.lemmas.List.Kept.{Any-dedup, Contains-from_dedup, IsStrictlySortedBy-dedup}
 pub use Rattle.std.proofs.lemmas.List.Sorted.{Contains-permutation, IsPermutation-map, IsPermutation-sym}
-pub use Rattle.std.proofs.lemmas.Nat.{leading_top, mul-le, pow-add, pow_pos}
+pub use Rattle.std.proofs.lemmas.Nat.{div-mul-add, leading_top, mul-le, ones_cat, pow-add, pow_pos}
 pub use Rattle.std.proofs.lemmas.Option.{get_or_from_slice_get, slice_get-get_or, slice_get-map, slice_get_read, slice_get_within}
 pub use Rattle.std.proofs.lemmas.Simd.{first_set_mask_l, length-chunk, mask_l-lt, mask_l-mod, run_in_chunk_fails, run_in_chunk_le, run_in_chunk_stops, tops_compared, zip2_splat_left}
 pub use Rattle.std.specs.Bool.{one_answer}
@@ -60,5 +61,5 @@ unfoldable pub use Rattle.std.specs.List.Sorted.{IsStrictlySortedBy}
 pub use Rattle.std.specs.List.Sorted.{IsPermutation, IsSorted}
 pub use Rattle.std.specs.Option.{option_map, option_to_list, unwrap_or}
 pub use Rattle.std.specs.Ordering.{eq_by_cmp, is_lt, nat_cmp}
-pub use Rattle.std.specs.Prelude.{MatchOption}
+pub use Rattle.std.specs.Prelude.{MatchOption, count_ones}
 pub use Rattle.std.specs.declared.cmp.Ordering.TheVariants.{Equal, Less}

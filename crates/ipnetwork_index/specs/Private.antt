@@ -1,5 +1,6 @@
 -- Definitions for the contracts of private functions, and how contracts view private fields.
 pub mod Answers
+pub mod BlockEnds
 pub mod Cuts
 pub mod Edges
 pub mod Halved

@@ -11,7 +11,7 @@ pub trait Key: Copy {
     // The number of bits.
     ghost BITS: { ℕ };
 
-    // The number that the key stands for.
+    // The number that the key represents.
     ghost value: { Self → ℕ };
 
     /// Whether this number is less than `other`.
@@ -49,10 +49,12 @@ impl Key for u32 {
 
     ghost value = { λ n. n };
 
+    #[inline]
     fn is_less(self, other: u32) -> bool {
         self < other
     }
 
+    #[inline]
     fn part_of(self, base: u32, shift: u32, last: usize) -> usize {
         let part = (self.saturating_sub(base) >> shift) as usize;
         part.min(last)
@@ -69,10 +71,12 @@ impl Key for u64 {
 
     ghost value = { λ n. n };
 
+    #[inline]
     fn is_less(self, other: u64) -> bool {
         self < other
     }
 
+    #[inline]
     fn part_of(self, base: u64, shift: u32, last: usize) -> usize {
         let part = (self.saturating_sub(base) >> shift) as usize;
         part.min(last)
@@ -89,10 +93,12 @@ impl Key for u128 {
 
     ghost value = { λ n. n };
 
+    #[inline]
     fn is_less(self, other: u128) -> bool {
         self < other
     }
 
+    #[inline]
     fn part_of(self, base: u128, shift: u32, last: usize) -> usize {
         let part = self.saturating_sub(base) >> shift;
         part.min(last as u128) as usize

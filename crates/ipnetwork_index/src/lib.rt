@@ -3,11 +3,12 @@
 //! networks are spread out, and otherwise about as many as a binary search.
 //!
 //! Only the calls that make an index allocate. `place_of`, the search of most indexes, and
-//! `write_starts`, which tells it where to begin, work on slices, in any memory.
+//! `write_starts`, which writes where that search begins, work on slices, in any memory.
 #![tactic(auto)]
 
 mod address_index;
 mod answers;
+mod block_ends;
 mod block_index;
 mod cuts;
 mod edges;

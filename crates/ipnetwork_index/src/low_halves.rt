@@ -3,6 +3,7 @@ ghost use Rattle.std.specs.Prelude.{◌≡◌, ℕ, ◌+◌, ◌^◌, ◌<◌, �
 ghost use Rattle.ipnetwork_index.specs.Private.LowHalves.{AreAscending, AreBefore, AreFirsts, AreKnownBy, AreLowHalves, AreLowHalvesOf, AreLows, AreRising, IsFirstFrom, IsFirstOf, IsRunOfLess, ReachAll};
 ghost use Rattle.ipnetwork_index.specs.Private.Partitions.{LiesAt};
 
+use crate::block_ends::{block_ends, place_by_word};
 use std::alloc::{AllocError, Global};
 use std::simd::prelude::*;
 
@@ -16,6 +17,9 @@ pub(crate) struct LowHalves {
     pub(crate) starts: Vec<u32>,
     // Each part has 2 ^ shift numbers, at most 2 ^ 16.
     pub(crate) shift: u32,
+    // What `block_ends` writes, for the numbers as the last ones of ranges: the places of most
+    // addresses, if there are many.
+    pub(crate) words: Vec<u64>,
 }
 
 impl LowHalves {
@@ -25,6 +29,7 @@ impl LowHalves {
             lows: Vec::new(alloc),
             starts: Vec::new(alloc),
             shift: 0,
+            words: Vec::new(alloc),
         }
     }
 
@@ -34,24 +39,51 @@ impl LowHalves {
         requires few { length numbers.now < 2 ^ 32 }
         requires ascending { AreAscending numbers.now }
         ensures { IfOk result (λ halves.
-            AreKnownBy numbers.now halves.lows.items halves.starts.items halves.shift) }
+            AreKnownBy numbers.now halves.lows.items halves.starts.items halves.shift
+            halves.words.items) }
     {
         let starts = starts_of(alloc, numbers, shift)?;
         let lows = lows_of(alloc, numbers)?;
+        let words = block_ends(alloc, numbers)?;
         Ok(LowHalves {
             lows,
             starts,
             shift,
+            words,
         })
     }
 
-    /// The place of the first of the numbers that is not less than this one. Not inlined, since in
-    /// a caller's loop the lesser of two numbers would be found by a branch.
-    #[inline(never)]
+    /// The place of the first of the numbers that is not less than this one: that which a word
+    /// gives, if there is one.
+    #[inline(always)]
     pub(crate) fn place_of(&self, number: u32) -> usize
-        requires { AreLowHalves self.now.lows.items self.now.starts.items self.now.shift }
+        requires { AreLowHalves self.now.lows.items self.now.starts.items self.now.shift
+            self.now.words.items }
         ensures { (w : ℕ) (numbers : List ℕ)
-            → AreLowHalvesOf w self.now.lows.items self.now.starts.items self.now.shift numbers
+            → AreLowHalvesOf w self.now.lows.items self.now.starts.items self.now.shift
+            self.now.words.items numbers
+            → number < 2 ^ w → LiesAt numbers number result }
+    {
+        let part = (number >> 13) as usize;
+        let words = self.words.as_slice();
+        if part < words.len() {
+            let word = words[part];
+            if word != 0 {
+                return place_by_word(word, number / 256 % 32);
+            }
+        }
+        self.place_by_lows(number)
+    }
+
+    // `place_of`, among the low halves. Not inlined, since in a caller's loop the lesser of two
+    // numbers would be found by a branch.
+    #[inline(never)]
+    fn place_by_lows(&self, number: u32) -> usize
+        requires { AreLowHalves self.now.lows.items self.now.starts.items self.now.shift
+            self.now.words.items }
+        ensures { (w : ℕ) (numbers : List ℕ)
+            → AreLowHalvesOf w self.now.lows.items self.now.starts.items self.now.shift
+            self.now.words.items numbers
             → number < 2 ^ w → LiesAt numbers number result }
     {
         let part = (number >> self.shift) as usize;
@@ -68,7 +100,8 @@ impl LowHalves {
 
     /// The number of numbers.
     pub(crate) fn len(&self) -> usize
-        requires { AreLowHalves self.now.lows.items self.now.starts.items self.now.shift }
+        requires { AreLowHalves self.now.lows.items self.now.starts.items self.now.shift
+            self.now.words.items }
         ensures { result + 8 ≡ length self.now.lows.items }
     {
         self.lows.len() - 8
@@ -157,7 +190,7 @@ fn write_starts(numbers: &[u32], shift: u32, starts: &mut [u32])
 }
 
 // How many of the numbers lie before the part, given that those before `from` do.
-fn first_of(numbers: &[u32], from: usize, part: usize, shift: u32) -> usize
+pub(crate) fn first_of(numbers: &[u32], from: usize, part: usize, shift: u32) -> usize
     requires narrow { shift ≤ 16 }
     requires within { from ≤ length numbers.now }
     requires before { AreBefore numbers.now shift part from }

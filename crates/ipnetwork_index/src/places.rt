@@ -24,7 +24,7 @@ impl<N: IndexedNetwork> Places<N> {
         requires { IsPartition N.WIDTH (map N.number lasts.now) }
         ensures { IfOk result (λ places. ArePlacesOf N.WIDTH places.partition
             places.halves.lows.items places.halves.starts.items places.halves.shift
-            (map N.number lasts.now)) }
+            places.halves.words.items (map N.number lasts.now)) }
     {
         let shift = low_shift(lasts.len());
         let are_many = are_many_and_spread::<N>(lasts);
@@ -46,10 +46,10 @@ impl<N: IndexedNetwork> Places<N> {
     /// The number of ranges.
     pub(crate) fn len(&self) -> usize
         requires { HavePlaces N.WIDTH self.now.partition self.now.halves.lows.items
-            self.now.halves.starts.items self.now.halves.shift }
+            self.now.halves.starts.items self.now.halves.shift self.now.halves.words.items }
         ensures { (lasts : List ℕ) → ArePlacesOf N.WIDTH self.now.partition
-            self.now.halves.lows.items self.now.halves.starts.items self.now.halves.shift lasts
-            → result ≡ length lasts }
+            self.now.halves.lows.items self.now.halves.starts.items self.now.halves.shift
+            self.now.halves.words.items lasts → result ≡ length lasts }
     {
         match &self.partition {
             Some(partition) => partition.len(),
@@ -61,10 +61,10 @@ impl<N: IndexedNetwork> Places<N> {
     #[inline(always)]
     pub(crate) fn place_of(&self, addr: N::Addr) -> usize
         requires { HavePlaces N.WIDTH self.now.partition self.now.halves.lows.items
-            self.now.halves.starts.items self.now.halves.shift }
+            self.now.halves.starts.items self.now.halves.shift self.now.halves.words.items }
         ensures { (lasts : List ℕ) → ArePlacesOf N.WIDTH self.now.partition
-            self.now.halves.lows.items self.now.halves.starts.items self.now.halves.shift lasts
-            → LiesAt lasts (N.number addr) result }
+            self.now.halves.lows.items self.now.halves.starts.items self.now.halves.shift
+            self.now.halves.words.items lasts → LiesAt lasts (N.number addr) result }
     {
         match &self.partition {
             Some(partition) => partition.place_of(N::number_of(addr)),
@@ -73,9 +73,9 @@ impl<N: IndexedNetwork> Places<N> {
     }
 }
 
-// Whether there are so many ranges that low halves are worth it, and those without a 64th at either
-// end extend over a fourth of all numbers: otherwise most of them could lie in one part. Only
-// numbers of at most 32 bits have low halves.
+// Whether there are enough ranges for low halves to be worth it, and the ranges without a 64th of
+// them at either end extend over a fourth of all numbers: otherwise most of them could lie in one
+// part. Only numbers of at most 32 bits have low halves.
 fn are_many_and_spread<N: IndexedNetwork>(lasts: &[N::Addr]) -> bool
     ensures short { IsTrue result → N.WIDTH ≤ 32 }
     ensures few { IsTrue result → length lasts.now < 2 ^ 32 }

@@ -153,12 +153,13 @@ impl<N: IndexedNetwork, V: Copy> RouteIndex<N, V> {
 
     /// The number of ranges that the table's blocks cut the addresses into: a look-up finds the
     /// same for all addresses of a range. There are at most one more than twice as many ranges as
-    /// blocks. Besides the last numbers of the ranges, as in an `AddressIndex`, the index has the
-    /// table, and a byte and a value for each range. It has two to four places of 4 bytes for each
-    /// range, or at most one from 2^16 ranges on, but no more than 2^20. From 2^16 IPv4 ranges on,
-    /// if all but a 32nd of them extend over a fourth of the addresses, it has 2 bytes instead of 4
-    /// for each range, and one place for one or more ranges, on average for fewer than eight unless
-    /// there are 2^23 or more, but no more than 2^20 + 1 places.
+    /// blocks. In addition to the last numbers of the ranges, as in an `AddressIndex`, the index
+    /// has the table, and a byte and a value for each range. It has two to four places of 4 bytes
+    /// for each range, or at most one from 2^16 ranges on, but no more than 2^20. From 2^16 IPv4
+    /// ranges on, if all but a 32nd of them extend over a fourth of the addresses, it has 2 bytes
+    /// instead of 4 for each range, and one place for one or more ranges, on average for fewer than
+    /// eight unless there are 2^23 or more, but no more than 2^20 + 1 places. From 2^19 such ranges
+    /// on, it also has 2^19 words of 8 bytes.
     ///
     /// ```
     /// let mut table = PrefixTable::new(rt.alloc());

@@ -10,9 +10,9 @@ use crate::simd_step::below_of_four;
 /// last four may be less than `key`. For each part of 2^`shift` numbers from `base` on, `starts`
 /// has a place where the search may begin, as `write_starts` writes it.
 ///
-/// The search reads the four keys from there on. Only if all of them are less than `key`, it goes
-/// on within the part, in steps that shrink: if n keys lie in the part, it reads some 2 log2(n) of
-/// them.
+/// The search reads the four keys from there on. Only if all of them are less than `key` does it
+/// continue within the part, in steps that shrink: if n keys lie in the part, it reads some
+/// 2 log2(n) of them.
 ///
 /// ```
 /// let keys = [9u32, 20, u32::MAX, u32::MAX, u32::MAX, u32::MAX];
@@ -48,8 +48,8 @@ fn place_from_start<K: Key>(keys: &[K], starts: &[u32], part: usize, start: usiz
 }
 
 // `place_of`, from a place in the part on. It searches up to the start of the next part if the key
-// there is not less than `key`, as is so if the starts are those of the keys. Not inlined, to keep
-// a search that ends within the first four keys short.
+// there is not less than `key`, which is the case if the starts are those of the keys. Not inlined,
+// to keep a search that ends within the first four keys short.
 #[inline(never)]
 fn place_in_part<K: Key>(keys: &[K], starts: &[u32], part: usize, from: usize, key: K) -> usize
     requires part { part < length starts.now }

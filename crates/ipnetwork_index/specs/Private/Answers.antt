@@ -26,8 +26,8 @@ pub record TellsAt {V : Type 0} (w : ℕ) (t : FinMap network_cmp V) (prefixes :
   pub found : (other : V) → get_or prefixes at 255 ≢ 255
       → IsFound w t x (get_or prefixes at 255) (get_or values at other)
 
--- the answer to a look-up of x that the prefix length and the value at this place give. The prefix length 255 stands
--- for no answer; any other that is greater than w counts as w
+-- the answer to a look-up of x that the prefix length and the value at this place give. The prefix length 255 means
+-- that there is none; any other that is greater than w counts as w
 abbrev pub IsMadeOf : {N V : Type 0} → (N → Network) → ℕ → List ℕ → List V → ℕ → ℕ
     → Option (N × V) → Type 0
 IsMadeOf pair w prefixes values at x answer =

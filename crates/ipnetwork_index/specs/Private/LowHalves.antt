@@ -1,6 +1,7 @@
 -- Numbers represented by the part that they lie in and by their last 16 bits.
 use Rattle.std.specs.Prelude.{◌≡◌, ℕ, ◌+◌, ◌/◌, ◌%◌, ◌^◌, ◌<◌, ◌≤◌, List, length, Option, MatchOption}
 use Rattle.std.proofs.Common.{get_or}
+use Rattle.ipnetwork_index.specs.Private.BlockEnds.{AreTelling}
 use Rattle.ipnetwork_index.specs.Private.Partitions.{IsPartition}
 
 -- each number is greater than those before it
@@ -39,26 +40,27 @@ pub record AreLows (numbers lows : List ℕ) : Type 0 where
   pub room : length lows ≡ length numbers + 8
   pub all : (k : ℕ) → k < length numbers → get_or lows k 0 ≡ get_or numbers k 0 % 65536
 
--- `lows` and `starts` represent the numbers
-pub record AreKnownBy (numbers lows starts : List ℕ) (shift : ℕ) : Type 0 where
+-- `lows` and `starts` represent the numbers, and `words` give the places of those that lie in their parts
+pub record AreKnownBy (numbers lows starts : List ℕ) (shift : ℕ) (words : List ℕ) : Type 0 where
   pub narrow : shift ≤ 16
   pub lows_are : AreLows numbers lows
   pub reach : ReachAll starts shift
   pub firsts : AreFirsts numbers starts shift
+  pub telling : AreTelling numbers words
 
--- the numbers are the last numbers of ranges that make up the numbers of w bits, w is at most 32, and `lows` and
--- `starts` represent them
-pub record AreLowHalvesOf (w : ℕ) (lows starts : List ℕ) (shift : ℕ) (numbers : List ℕ) : Type 0
-  where
-    pub short : w ≤ 32
-    pub partition : IsPartition w numbers
-    pub known : AreKnownBy numbers lows starts shift
+-- the numbers are the last numbers of ranges that make up the numbers of w bits, w is at most 32, and `lows`, `starts`
+-- and `words` represent them
+pub record AreLowHalvesOf (w : ℕ) (lows starts : List ℕ) (shift : ℕ) (words numbers : List ℕ)
+    : Type 0 where
+  pub short : w ≤ 32
+  pub partition : IsPartition w numbers
+  pub known : AreKnownBy numbers lows starts shift words
 
--- `lows` and `starts` represent the last numbers of some ranges
-pub record AreLowHalves (lows starts : List ℕ) (shift : ℕ) : Type 0 where
+-- `lows`, `starts` and `words` represent the last numbers of some ranges
+pub record AreLowHalves (lows starts : List ℕ) (shift : ℕ) (words : List ℕ) : Type 0 where
   pub w : ℕ
   pub numbers : List ℕ
-  pub of : AreLowHalvesOf w lows starts shift numbers
+  pub of : AreLowHalvesOf w lows starts shift words numbers
 
 -- of the eight from this place on, the first `less` are less than `low`, and the next one is not
 pub record IsRunOfLess (lows : List ℕ) (at low less : ℕ) : Type 0 where
@@ -88,12 +90,12 @@ pub record IsNarrowedTo (lows : List ℕ) (from end low at to : ℕ) : Type 0 wh
   pub next : to < end → low ≤ get_or lows to 0
 
 -- the ranges with these last numbers are looked up in the partition, or, if there is none, in the low halves
-abbrev pub ArePlacesOf : ℕ → Option (List ℕ) → List ℕ → List ℕ → ℕ → List ℕ → Type 0
-ArePlacesOf w partition lows starts shift lasts =
-    MatchOption partition (AreLowHalvesOf w lows starts shift lasts) (λ own. own ≡ lasts)
+abbrev pub ArePlacesOf : ℕ → Option (List ℕ) → List ℕ → List ℕ → ℕ → List ℕ → List ℕ → Type 0
+ArePlacesOf w partition lows starts shift words lasts =
+    MatchOption partition (AreLowHalvesOf w lows starts shift words lasts) (λ own. own ≡ lasts)
 
 -- some ranges are looked up in the partition, or, if there is none, in the low halves
 pub record HavePlaces (w : ℕ) (partition : Option (List ℕ)) (lows starts : List ℕ) (shift : ℕ)
-    : Type 0 where
+    (words : List ℕ) : Type 0 where
   pub lasts : List ℕ
-  pub of : ArePlacesOf w partition lows starts shift lasts
+  pub of : ArePlacesOf w partition lows starts shift words lasts

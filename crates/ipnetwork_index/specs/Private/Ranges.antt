@@ -17,7 +17,8 @@ table_with pair entries = from_sorted (by_pair pair entries)
 pub record IsIndexed {V : Type 0} (w : ℕ) (t : FinMap network_cmp V) (partition : Option (List ℕ))
     (halves : LowHalves) (answers : Answers V) : Type 0 where
   pub lasts : List ℕ
-  pub placed : ArePlacesOf w partition halves.lows.items halves.starts.items halves.shift lasts
+  pub placed : ArePlacesOf w partition halves.lows.items halves.starts.items halves.shift
+      halves.words.items lasts
   pub answered : IsAnswered w t lasts answers.prefixes.items answers.values.items
 
 -- `IsIndexed` holds for some table

@@ -12,19 +12,19 @@ returns g c =
     let size : length xs ≡ length keys = length-map keys f in
     let within = c.requires.within in
     let a : IsOneIfLess (get_or xs (at + step) 0) x c.one_if_less-first.result
-    = rw (read_number f keys (at + step) c.index-keys-at.result (omega arith) c.index-keys-at.is)
+    = rw (read_number f keys (at + step) c.index-keys-at-2.result (omega arith) c.index-keys-at-2.is)
     c.one_if_less-first.ensures in
     let b : IsOneIfLess (get_or xs (at + (2 * step + 1)) 0) x c.one_if_less-second.result
-    = rw (read_number f keys (at + (2 * step + 1)) c.index-keys-at-2.result (omega arith)
-    c.index-keys-at-2.is)
+    = rw (read_number f keys (at + (2 * step + 1)) c.index-keys-at-3.result (omega arith)
+    c.index-keys-at-3.is)
     c.one_if_less-second.ensures in
     let d : IsOneIfLess (get_or xs (at + (3 * step + 2)) 0) x c.one_if_less-third.result
-    = rw (read_number f keys (at + (3 * step + 2)) c.index-keys-at-3.result (omega arith)
-    c.index-keys-at-3.is)
+    = rw (read_number f keys (at + (3 * step + 2)) c.index-keys-at-4.result (omega arith)
+    c.index-keys-at-4.is)
     c.one_if_less-third.ensures in
     let e : IsOneIfLess (get_or xs (at + (4 * step + 3)) 0) x c.one_if_less-fourth.result
-    = rw (read_number f keys (at + (4 * step + 3)) c.index-keys-at-4.result (omega arith)
-    c.index-keys-at-4.is)
+    = rw (read_number f keys (at + (4 * step + 3)) c.index-keys-at.result (omega arith)
+    c.index-keys-at.is)
     c.one_if_less-fourth.ensures in
     four_step xs x at step c.one_if_less-first.result c.one_if_less-second.result
     c.one_if_less-third.result c.one_if_less-fourth.result
