@@ -1,6 +1,6 @@
 -- The words and the lemmas that answers cite, passed on from one place.
 
-pub use Rattle.ipnetwork_blocks.proofs.Words.{All, All-permutation, All-set, AllWithin, AreHalves, AreJoined, Contains, FromTo, HostBitsAreZero, InDifference, IpNetwork, IsAggregate, IsCidrBlock, IsLeastList, IsMaximalIn, IsNetwork, IsPermutation, IsPermutation-map, IsPermutation-trans, IsRun, IsSpanning, IsV4, IsV6, LiesInLast, List, Network, SameUnion, SharesBits, [], ap, arith, block_at, block_begins, block_fits_too, block_of, block_size, get_or, get_or_default, high, iff_false, le-leb, length, length-map, length-take-le, list_falls, low, map, map-set, mask_of, max, min, set, subst, sym, take, take-map, the_network, ℕ, ◌*◌, ◌++◌, ◌+◌, ◌-◌, ◌<◌, ◌^◌, ◌∙◌, ◌∷◌, ◌≡◌, ◌≢◌, ◌≤◌}
+pub use Rattle.ipnetwork_blocks.proofs.Words.{All, All-permutation, All-set, AllWithin, AreHalves, AreJoined, Contains, FromTo, HostBitsAreZero, InDifference, IpNetwork, IsAggregate, IsCidrBlock, IsLeastList, IsMaximalIn, IsNetwork, IsPermutation, IsPermutation-map, IsPermutation-trans, IsRun, IsSpanning, IsV4, IsV6, LiesInLast, List, Network, SameUnion, SharesBits, [], ap, arith, block_at, block_begins, block_fits_too, block_of, block_size, get_or, get_or_default, high, iff_false, le-leb, length, length-map, length-take-le, list_falls, low, map, map-set, mask_of, max, min, set, subst, sym, take, take-map, the_network, true≢false, ℕ, ◌*◌, ◌++◌, ◌+◌, ◌-◌, ◌<◌, ◌^◌, ◌∙◌, ◌∷◌, ◌≡◌, ◌≢◌, ◌≤◌}
 pub use Rattle.ipnetwork_blocks.proofs.Addresses.{differ, differ_not, empty_mask, full_mask, less, not_less, other_network, same_network}
 pub use Rattle.ipnetwork_blocks.proofs.AggregateClearing.{IsClearing, aggregate_of_sorted, cleared, clearing_more, clearing_starts}
 pub use Rattle.ipnetwork_blocks.proofs.AggregateFront.{IsJoining, joining_more, joining_starts, joining_stops}
@@ -14,6 +14,7 @@ pub use Rattle.ipnetwork_blocks.proofs.ExcludedCounts.{all_left, count_inside, n
 pub use Rattle.ipnetwork_blocks.proofs.ExcludedParts.{least_apart, least_around, least_before, least_behind}
 pub use Rattle.ipnetwork_blocks.proofs.FollowingBlock.{followed}
 pub use Rattle.ipnetwork_blocks.proofs.HostLists.{ipv4_between, ipv6_rest, one_taken, two_members}
+pub use Rattle.ipnetwork_blocks.proofs.LeastLists.{own_address}
 pub use Rattle.ipnetwork_blocks.proofs.MaximalBlocks.{range_is_shortest}
 pub use Rattle.ipnetwork_blocks.proofs.NumberedSubnet.{IsNumber, all_below, begins_within, few_shifted, is_below, numbered, offset_fits}
 pub use Rattle.ipnetwork_blocks.proofs.PrecedingBlock.{preceded}

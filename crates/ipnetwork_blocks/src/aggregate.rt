@@ -1,7 +1,7 @@
 //! The least list of blocks with the same union as a list of networks.
 ghost use Rattle.std.specs.Prelude.{◌≡◌, ◌<◌, ◌≤◌, ◌↔◌, IsTrue, MatchOption, length, take, ◌++◌, ◌∷◌, [], map, vec_capacity};
 ghost use Rattle.std.specs.List.{All};
-ghost use Rattle.ipnetwork_family.specs.Network.{IsCidrBlock, IsNetworkAtMost, block_of, high};
+ghost use Rattle.ipnetwork_family.specs.Network.{IsCidrBlock, IsNetworkAtMost, Subnet, block_of, high};
 ghost use Rattle.ipnetwork_blocks.specs.Aggregate.{SameUnion, IsAggregate};
 ghost use Rattle.ipnetwork_blocks.specs.Supernets.{parent};
 ghost use Rattle.ipnetwork_blocks.specs.Private.Joining.{AreJoined, AreHalves, AreInOrder, LiesInLast};
@@ -113,9 +113,21 @@ fn lies_in_last<N: CidrNetwork, H: HoldsNetwork<N>>(front: &[H], block: N) -> bo
     ensures { IsTrue result ↔ LiesInLast N.WIDTH (map H.held front.now) (N.pair block) }
 {
     match front.last() {
-        Some(last) => block.is_subnet_of(last.held_network()),
+        Some(last) => lies_in(block, last.held_network()),
         None => false,
     }
+}
+
+// Returns whether the block lies in the network. Few blocks do, and nothing predicts which of two
+// prefix lengths is the longer one: to compare these first takes 1.1 times as long, for the whole
+// aggregate with the sort.
+fn lies_in<N: CidrNetwork>(block: N, network: N) -> bool
+    ensures { IsTrue result ↔ Subnet N.WIDTH (N.pair block) (N.pair network) }
+{
+    if !network.contains(block.ip()) {
+        return false;
+    }
+    block.is_subnet_of(network)
 }
 
 // Joins the block with the last block in front, then the result with the one before that, and so on
@@ -148,18 +160,22 @@ fn join_back<N: CidrNetwork, H: HoldsNetwork<N>>(front: &[H], block: N) -> (usiz
     (left, joined)
 }
 
-// Returns the block whose halves are these two, if there is one.
+// Returns the block whose halves are these two, if there is one. Their prefix lengths are compared
+// last, as in `lies_in`.
 fn join<N: CidrNetwork>(first: N, second: N) -> Option<N>
     ensures { MatchOption result (¬ (AreHalves N.WIDTH (N.pair first) (N.pair second)))
         (λ whole. AreHalves N.WIDTH (N.pair first) (N.pair second)
         × (N.pair whole ≡ parent N.WIDTH (N.pair first))) }
 {
     let prefix = first.prefix();
-    if prefix == 0 || second.prefix() != prefix {
+    if prefix == 0 {
         return None;
     }
     let whole = N::block(first.ip(), prefix - 1)?;
-    if whole.contains(second.ip()) {
+    if !whole.contains(second.ip()) {
+        return None;
+    }
+    if second.prefix() == prefix {
         Some(whole)
     } else {
         None

@@ -1,8 +1,8 @@
 -- The steps of the intersection of two sets.
-use Rattle.ipnetwork_sets.proofs.Words.{◌≡◌, ℕ, ◌<◌, ◌≤◌, inl, inr, sym, subst, ap, ◌∙◌, arith, ⊎_elim, List, [], ◌∷◌, Network, Member, Subnet, high, within_member, LiesIn, InUnion, AggregateIsApart, contains_head, least_of_none, least_unique, IsAddressSet, InBoth, common_blocks}
+use Rattle.ipnetwork_sets.proofs.Words.{◌≡◌, ◌↔◌, ℕ, ◌<◌, ◌≤◌, inl, inr, refl, sym, subst, ap, ◌∙◌, arith, ⊎_elim, Bool, true, false, not, true≢false, IsTrue, from_bool, List, [], ◌∷◌, map, drop, drop-map, All, All-drop, cases_lt, Network, IsCidrBlock, Member, Overlap, Subnet, subnet_from, shares_address, high, size_pos, within_member, member_within, LiesIn, InUnion, AggregateIsApart, contains_head, own_address, least_of_none, least_unique, IsAddressSet, HoldSet, InBoth, common_blocks}
 use Rattle.ipnetwork_sets.proofs.LeastBlocks.{common_is_least}
 use Rattle.ipnetwork_sets.proofs.Lists.{set_block}
-use Rattle.ipnetwork_sets.proofs.Steps.{smaller_inside, tail_is_set, first_and_rest, same_list, union_cons, union_nil, union_behind, union_from, first_is_maximal, maximal_in_part}
+use Rattle.ipnetwork_sets.proofs.Steps.{tail_is_set, first_and_rest, same_list, union_cons, union_nil, union_behind, union_from, first_is_maximal, maximal_in_part}
 
 -- ---- one of the two lists is empty
 
@@ -78,7 +78,7 @@ module _ (w : ℕ) (a b : Network) (first second others rest : List Network) (ap
   others_are_set : IsAddressSet w others
   others_are_set = tail_is_set w a others apart ha
 
-  pub past_first : high w a < b.address
+  past_first : high w a < b.address
       → IsAddressSet w others × (common_blocks w first second ≡ common_blocks w others second)
   past_first l = (
     others_are_set,
@@ -86,28 +86,96 @@ module _ (w : ℕ) (a b : Network) (first second others rest : List Network) (ap
         ∙ ap (λ t. common_blocks w others t) (sym f),
   )
 
-  pub gives_first : (high w a < b.address → ⊥) → (high w b < a.address → ⊥) → b.prefix ≤ a.prefix
+  pub gives_first : Overlap w a b → b.prefix ≤ a.prefix
       → IsAddressSet w others × (common_blocks w first second ≡ a ∷ common_blocks w others second)
-  gives_first not_before not_behind le = (
-    others_are_set,
-    both ∙ common_gives_first w a b others rest apart ha hb
-        (smaller_inside w a b (set_block w (a ∷ others) a ha (contains_head a others))
-        (set_block w (b ∷ rest) b hb (contains_head b rest)) not_before not_behind le)
-        ∙ ap (λ t. a ∷ common_blocks w others t) (sym f),
-  )
+  gives_first o le =
+      let ba : IsCidrBlock w a = set_block w (a ∷ others) a ha (contains_head a others) in
+      let bb : IsCidrBlock w b = set_block w (b ∷ rest) b hb (contains_head b rest) in (
+        others_are_set,
+        both ∙ common_gives_first w a b others rest apart ha hb
+            (subnet_from w a b ba.network le (shares_address w a b o.0 le ba.network bb.network o.1 o.2))
+            ∙ ap (λ t. a ∷ common_blocks w others t) (sym f),
+      )
+
+  -- of two blocks without a common address, the one that begins first ends before the other begins
+  pub ends_first : (Overlap w a b → ⊥) → a.address ≤ b.address → high w a < b.address
+  ends_first apart_too le =
+      let ba : IsCidrBlock w a = set_block w (a ∷ others) a ha (contains_head a others) in
+      let bb : IsCidrBlock w b = set_block w (b ∷ rest) b hb (contains_head b rest) in
+      ⊎_elim (λ (l : high w a < b.address). l)
+      (λ (at : b.address ≤ high w a).
+      let pos = size_pos w a.prefix in
+      let block = ba.block in
+      let m : Member w a b.address = member_within w a ba.network b.address (omega arith) (omega arith) in
+      let r : high w a < b.address = absurd (apart_too (b.address, m, own_address w b bb.network)) in r)
+      (cases_lt (high w a) b.address)
 
 -- the steps with the two lists exchanged
 
 module _ (w : ℕ) (a b : Network) (first second others rest : List Network) (apart : AggregateIsApart)
     (e : first ≡ a ∷ others) (f : second ≡ b ∷ rest)
     (hf : IsAddressSet w first) (hs : IsAddressSet w second) where
-  pub past_second : high w b < a.address
+  past_second : high w b < a.address
       → IsAddressSet w rest × (common_blocks w first second ≡ common_blocks w first rest)
   past_second l = let past = past_first w b a second first rest others apart f e hs hf l in
       (past.0, common_swaps w first second ∙ past.1 ∙ common_swaps w rest first)
 
-  pub gives_second : (high w a < b.address → ⊥) → (high w b < a.address → ⊥) → a.prefix ≤ b.prefix
+  pub gives_second : Overlap w a b → a.prefix ≤ b.prefix
       → IsAddressSet w rest × (common_blocks w first second ≡ b ∷ common_blocks w first rest)
-  gives_second not_before not_behind le =
-      let gives = gives_first w b a second first rest others apart f e hs hf not_behind not_before le in
+  gives_second o le =
+      let gives = gives_first w b a second first rest others apart f e hs hf (o.0, o.2, o.1) le in
       (gives.0, common_swaps w first second ∙ gives.1 ∙ ap (λ t. b ∷ t) (common_swaps w rest first))
+
+  -- two blocks without a common address: the one that begins first is passed
+  pub passes : (Overlap w a b → ⊥) → (before : Bool) → (IsTrue before ↔ a.address < b.address)
+      → IsAddressSet w (drop (from_bool before) first) × IsAddressSet w (drop (from_bool (not before)) second)
+      × (common_blocks w first second
+      ≡ common_blocks w (drop (from_bool before) first) (drop (from_bool (not before)) second))
+  passes apart_too true says =
+      let past = past_first w a b first second others rest apart e f hf hs
+      (ends_first w a b first second others rest apart e f hf hs apart_too (omega (arith, says.0 refl))) in
+      let left : drop 1 first ≡ others = ap (λ (t : List Network). drop 1 t) e in (
+        subst (λ (t : List Network). IsAddressSet w t) (sym left) past.0,
+        hs,
+        past.1 ∙ ap (λ t. common_blocks w t second) (sym left),
+      )
+  passes apart_too false says =
+      let not_before : b.address ≤ a.address = ⊎_elim
+      (λ (l : a.address < b.address).
+      let r : b.address ≤ a.address = absurd (true≢false (sym (says.1 l))) in r)
+      (λ (le : b.address ≤ a.address). le) (cases_lt a.address b.address) in
+      let past = past_second (ends_first w b a second first rest others apart f e hs hf
+      (λ o. apart_too (o.0, o.2, o.1)) not_before) in
+      let left : drop 1 second ≡ rest = ap (λ (t : List Network). drop 1 t) f in (
+        hf,
+        subst (λ (t : List Network). IsAddressSet w t) (sym left) past.0,
+        past.1 ∙ ap (common_blocks w first) (sym left),
+      )
+
+-- the same for lists of values that hold the blocks
+
+pub skips : {H : Type 0} (holds : H → Type 0) (held : H → Network) (w : ℕ) (a b : Network) (first second : List H)
+    (others rest : List Network) (before : Bool) (left right : List H) → AggregateIsApart
+    → map held first ≡ a ∷ others → map held second ≡ b ∷ rest
+    → HoldSet w holds held first → HoldSet w holds held second
+    → (Overlap w a b → ⊥) → (IsTrue before ↔ a.address < b.address)
+    → left ≡ drop (from_bool before) first → right ≡ drop (from_bool (not before)) second
+    → HoldSet w holds held left × HoldSet w holds held right
+    × (common_blocks w (map held first) (map held second) ≡ common_blocks w (map held left) (map held right))
+skips {H} holds held w a b first second others rest before left right apart e f hf hs apart_too says l r =
+    let passed = passes w a b (map held first) (map held second) others rest apart e f hf.1 hs.1 apart_too before says in
+    let as_left : drop (from_bool before) (map held first) ≡ map held left =
+    drop-map held (from_bool before) first ∙ ap (map held) (sym l) in
+    let as_right : drop (from_bool (not before)) (map held second) ≡ map held right =
+    drop-map held (from_bool (not before)) second ∙ ap (map held) (sym r) in (
+      (
+        subst (λ (t : List H). All holds t) (sym l) (All-drop holds (from_bool before) first hf.0),
+        subst (λ (t : List Network). IsAddressSet w t) as_left passed.0,
+      ),
+      (
+        subst (λ (t : List H). All holds t) (sym r) (All-drop holds (from_bool (not before)) second hs.0),
+        subst (λ (t : List Network). IsAddressSet w t) as_right passed.1,
+      ),
+      passed.2 ∙ ap (λ t. common_blocks w t (drop (from_bool (not before)) (map held second))) as_left
+          ∙ ap (common_blocks w (map held left)) as_right,
+    )

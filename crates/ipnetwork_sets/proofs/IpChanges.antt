@@ -23,7 +23,7 @@ alone_none w bs h =
     (λ x. ((λ c. (c, λ d. contains_nil d.0 d.1)), (λ p. p.0)))
     h
 
--- an operation on a set and a network of one family, the same for either family, and what the result tells
+-- an operation on a set and a network of one family, the same for either family, and what the result says
 pub record IsChange (F : ℕ → List Network → List Network → ℕ → Type 0) (G : List IpNetwork → List IpNetwork
     → IpAddr → Type 0)
     (P : ℕ → Network → List Network → Type 0) (Q : IpNetwork → List IpNetwork → Type 0) : Type 0 where

@@ -1,6 +1,5 @@
 -- Sets of addresses of both families at which a misreading of the definitions would show: `all4` has all IPv4
--- addresses,
--- `all6` all IPv6 addresses.
+-- addresses, `all6` all IPv6 addresses.
 use Rattle.ipnetwork_sets.proofs.Words.{◌≡◌, ℕ, ◌-◌, ◌^◌, inl, inr, refl, sym, subst, ap, arith, ⊎_elim, ◌<◌, List, [], ◌∷◌, ◌++◌, length, map, true, false, Contains, filter_map, IpAddr, Network, IpMember, IpNetwork, V4, V6, as_v4, as_v6, InIpUnion, v4_of_both, v6_of_both, contains_cons, contains_head, contains_nil, contains_tail, same_ip_blocks, v4_then_v6, HasTooLittleRoom, IsIpLeastList, IsIpAddressSet, MeetsIpUnion, InIpBoth, InIpFirstAlone, InIpComplement, InIpEither, IsIpWithin, AreIpDisjoint}
 use Rattle.ipnetwork_addr.specs.declared.ip.IpAddr.TheVariants as addresses
 

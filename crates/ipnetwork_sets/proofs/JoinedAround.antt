@@ -1,4 +1,4 @@
--- Adding a network to a set: the block that replaces it, joined with those beside it.
+-- Adding a network to a set: the block that replaces it, joined with the blocks next to it.
 use Rattle.ipnetwork_sets.proofs.Words.{◌≡◌, ◌↔◌, ℕ, ◌+◌, ◌-◌, ◌<◌, ◌≤◌, ◌⊎◌, inl, inr, sym, ap, subst, ◌∙◌, arith, ⊎_elim, List, [], ◌∷◌, ◌++◌, length, get_or, take, drop, Option, None, Some, MatchOption, cases_lt, Contains, get_or_default, get_or-take, get_or-drop, length-take, length-drop, take_more, drop_more, All-append, All-drop, Network, IsNetwork, IsCidrBlock, Member, Subnet, Overlap, block_of, low, high, block_begins, block_fits_too, block_same_set, has_ends, nested, block_at_network, parent, IsLeastList, InUnion, LiesInUnion, AggregateIsApart, AreHalves, Follows, AreJoined, joined_take, in_union_push, halves_join, nothing_between, contains_head, contains_cons, pairs_append, least_of_same, IsAddressSet, InEither, IsPlace, NoHalfBefore, JoinsBefore, NoHalfBehind, JoinsBehind, union_append}
 use Rattle.ipnetwork_sets.proofs.Lists.{set_is_joined, joined_is_set}
 use Rattle.ipnetwork_sets.proofs.Placed.{block_of_set, begins_before_end, member_ends}

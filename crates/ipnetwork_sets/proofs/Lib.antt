@@ -29,6 +29,7 @@ pub mod RoomMade
 pub mod RunLists
 pub mod Searched
 pub mod SetLaws
+pub mod SharedBits
 pub mod Steps
 pub mod TextLaws
 pub mod Together

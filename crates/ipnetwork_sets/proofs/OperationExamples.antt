@@ -1,5 +1,5 @@
 -- Sets of 3-bit addresses, `a` of 0 to 3 and 6 and `b` of 2 to 5: every address of each operation's result.
-use Rattle.ipnetwork_sets.proofs.Words.{◌≡◌, ◌↔◌, ℕ, ◌/◌, ◌⊎◌, inr, refl, arith, ⊎_elim, List, [], ◌∷◌, None, Network, Member, InUnion, IsLeastList, contains_head, least_of_same, union_of_none, union_of_list, total, InBoth, InFirstAlone, InNetworkAlone, InComplement, InEither, IsWithin, AreDisjoint, all_from, least_within, least_blocks, in_union, is_from, common_blocks, left_blocks, either_blocks, InLeft}
+use Rattle.ipnetwork_sets.proofs.Words.{◌≡◌, ◌↔◌, ℕ, ◌/◌, inr, refl, arith, ⊎_elim, List, [], ◌∷◌, None, Network, Member, InUnion, IsLeastList, contains_head, least_of_same, union_of_none, union_of_list, total, InBoth, InFirstAlone, InNetworkAlone, InComplement, InEither, IsWithin, AreDisjoint, all_from, least_within, least_blocks, in_union, is_from, common_blocks, left_blocks, either_blocks, InLeft}
 use Rattle.ipnetwork_sets.proofs.LeastBlocks.{common_is_least, left_is_least, either_is_least}
 use Rattle.ipnetwork_sets.proofs.WholeSpace.{whole, complement_is_least}
 

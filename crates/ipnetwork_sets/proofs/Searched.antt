@@ -1,4 +1,4 @@
--- The binary search, and what the block that it finds tells about an address and a network.
+-- The binary search, and what the block that it finds shows of an address and a network.
 use Rattle.ipnetwork_sets.proofs.Words.{◌≡◌, ◌↔◌, ℕ, ◌-◌, ◌<◌, ◌≤◌, ◌⊎◌, inl, inr, sym, refl, ap, subst, ◌∙◌, arith, ⊎_elim, Bool, true, false, IsTrue, List, [], ◌∷◌, length, map, get_or, nat_le, IsNonDecreasingBy, IsPartitionPoint, cases_lt, cases_order, iff_false, le-leb, lt-leb, leb-true, leb-false, get_or_default, get_or-map, length-map, AllPairs, Contains, Network, IsNetwork, Member, Subnet, Overlap, low, high, size_pos, has_ends, within_member, member_within, IsMaximalIn, InUnion, LiesInUnion, AggregateHasOneBlock, AggregateHasNetworks, IsAddressSet, MeetsUnion, NoneUpTo, IsLastUpTo, IsSplitAt}
 use Rattle.ipnetwork_sets.proofs.Lists.{not_below}
 
@@ -9,7 +9,7 @@ pub weakly : (ns : List Network) → AllPairs (λ a b. a.address < b.address) ns
     → AllPairs (λ a b. a.address ≤ b.address) ns
 weakly ns up i j d l m = let f : (get_or ns i d).address < (get_or ns j d).address = up i j d l m in omega arith
 
--- what a test tells is a comparison of numbers
+-- the result of a test is a comparison of numbers
 pub told : (begins : Bool) (a x : ℕ) → IsTrue begins ↔ (a ≤ x) → begins ≡ nat_le a x
 told true a x iff = sym (le-leb a x (iff.0 refl))
 told false a x iff = sym (lt-leb a x (not_below a x (iff_false iff refl)))

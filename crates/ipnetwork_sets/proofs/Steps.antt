@@ -1,5 +1,5 @@
 -- A step of an iterator over the blocks of a set: the first block, and the set that is left.
-use Rattle.ipnetwork_sets.proofs.Words.{◌≡◌, ◌↔◌, ℕ, suc, ◌<◌, ◌≤◌, ◌⊎◌, inl, inr, sym, subst, arith, ⊎_elim, List, [], ◌∷◌, cases_lt, Contains, Network, IsNetwork, IsCidrBlock, Member, Subnet, low, high, size_pos, has_ends, within_member, member_within, subnet_from, shares_address, nested, LiesIn, IsMaximalIn, IsLeastList, InUnion, AggregateIsApart, Follows, AreJoined, own_address, contains_cons, contains_head, contains_tail, contains_nil, pairs_tail, pairs_head, least_of_same, least_of_one, least_of_two, least_unique, IsAddressSet}
+use Rattle.ipnetwork_sets.proofs.Words.{◌≡◌, ◌↔◌, ℕ, suc, ◌<◌, ◌≤◌, ◌⊎◌, inl, inr, sym, subst, arith, ⊎_elim, List, [], ◌∷◌, cases_lt, Contains, Network, IsNetwork, IsCidrBlock, Member, Subnet, low, high, size_pos, has_ends, within_member, subnet_from, shares_address, nested, LiesIn, IsMaximalIn, IsLeastList, InUnion, AggregateIsApart, Follows, AreJoined, contains_cons, contains_head, contains_tail, contains_nil, pairs_tail, pairs_head, least_of_same, least_of_one, least_of_two, least_unique, IsAddressSet}
 use Rattle.ipnetwork_sets.proofs.Lists.{set_is_joined, joined_is_set, set_block}
 
 -- ---- the first block
@@ -107,25 +107,3 @@ maximal_in_part w S T b m part lies = record {
   lies = lies;
   maximal = λ n nn lt sub within. m.maximal n nn lt sub (λ x k. part x (within x k));
 }
-
--- of two blocks that share an address, the one with the longer prefix length lies in the other
-pub smaller_inside : (w : ℕ) (m n : Network) → IsCidrBlock w m → IsCidrBlock w n → (high w m < n.address → ⊥)
-    → (high w n < m.address → ⊥) → n.prefix ≤ m.prefix → Subnet w m n
-smaller_inside w m n hm hn not_before not_behind le =
-    let pm = size_pos w m.prefix in
-    let pn = size_pos w n.prefix in
-    let bm = hm.block in
-    let bn = hn.block in
-    let shared : Member w n m.address = ⊎_elim
-    (λ (l : m.address < n.address). ⊎_elim
-    (λ (before : high w m < n.address). let r : Member w n m.address = absurd (not_before before) in r)
-    (λ (at : n.address ≤ high w m).
-    let mn : Member w m n.address = member_within w m hm.network n.address (omega arith) (omega arith) in
-    shares_address w m n n.address le hm.network hn.network mn (own_address w n hn.network))
-    (cases_lt (high w m) n.address))
-    (λ (l : n.address ≤ m.address). ⊎_elim
-    (λ (behind : high w n < m.address). let r : Member w n m.address = absurd (not_behind behind) in r)
-    (λ (at : m.address ≤ high w n). member_within w n hn.network m.address (omega arith) (omega arith))
-    (cases_lt (high w n) m.address))
-    (cases_lt m.address n.address) in
-    subnet_from w m n hm.network le shared

@@ -17,6 +17,7 @@ pub use Rattle.ipnetwork_blocks.proofs.MaximalBlocks.{is_shortest, member_or_not
 pub use Rattle.ipnetwork_blocks.proofs.RangeLists.{cond_by, least_from_after, least_from_to}
 pub use Rattle.ipnetwork_blocks.proofs.UnionLaws.{union_of_list, union_of_none}
 pub use Rattle.ipnetwork_blocks.proofs.WiderBlocks.{parent_made}
+pub use Rattle.ipnetwork_blocks.proofs.WidestBlock.{begins, begins_alone}
 pub use Rattle.ipnetwork_blocks.specs.Aggregate.{InUnion, IsAggregate, LiesInUnion, SameUnion}
 pub use Rattle.ipnetwork_blocks.specs.AggregateIp.{IsIpAggregate, as_v4, as_v6}
 pub use Rattle.ipnetwork_blocks.specs.AggregateIpLaws.{InIpUnion, LiesInIpUnion}
@@ -28,9 +29,10 @@ pub use Rattle.ipnetwork_blocks.specs.Private.Joining.{AreHalves, AreJoined, Fol
 unfoldable pub use Rattle.ipnetwork_blocks.specs.Private.RangeList.{blocks_within}
 pub use Rattle.ipnetwork_blocks.specs.Ranges.{FromTo}
 pub use Rattle.ipnetwork_blocks.specs.Supernets.{parent}
-pub use Rattle.ipnetwork_family.proofs.Blocks.{block_begins, block_fits_too, block_same_set, div_within, has_ends, high_fits, member_within, membership_computed, nested, shares_address, size_pos, subnet_from, subnet_prefix, within_member}
+pub use Rattle.ipnetwork_family.proofs.Blocks.{block_begins, block_fits_too, block_same_set, coarser_size, div_within, has_ends, high_fits, member_within, membership_computed, nested, overlap_by_address, shares_address, size_pos, subnet_from, subnet_prefix, within_member}
 pub use Rattle.ipnetwork_family.proofs.BlocksAt.{block_at_holds, block_at_network, block_at_subnet}
 pub use Rattle.ipnetwork_family.proofs.Members.{length-count_up, lists_members}
+pub use Rattle.ipnetwork_family.specs.Bits.{SharesBits}
 pub use Rattle.ipnetwork_family.specs.Computed.Network.{is_member}
 pub use Rattle.ipnetwork_family.specs.Family.{text_of}
 pub use Rattle.ipnetwork_family.specs.Network.{HostBitsAreZero, IsCidrBlock, IsNetwork, Member, Network, Overlap, Subnet, block_at, block_of, block_size, high, low, members}
@@ -57,7 +59,7 @@ pub use Rattle.ipnetwork_sets.specs.Texts.{lines_of}
 pub use Rattle.ipnetwork_sets.specs.declared.address_count.AddressCount.{AddressCount}
 pub use Rattle.ipnetwork_sets.specs.declared.address_count.AddressCount.TheVariants.{AllOfIpv6, Number}
 pub use Rattle.std.proofs.Common.{Bool, Err, IfOk, IsTrue, List, MatchOption, None, Ok, OnErr, OnOk, Option, Result, Some, [], ap, append_assoc, arith, cond, decimal, drop, false, get_or, inl, inr, is_some, leb, length, map, min, not, of_calls, refl, rules, set, subst, suc, sym, take, true, true≢false, vec_capacity, zero, ℕ, ⊎_elim, ◌&&◌, ◌*◌, ◌++◌, ◌+◌, ◌-◌, ◌/◌, ◌<◌, ◌^◌, ◌||◌, ◌↔◌, ◌∙◌, ◌∷◌, ◌≡◌, ◌≤◌, ◌⊎◌}
-pub use Rattle.std.proofs.Math.Nat.{min-eq_left, min-eq_right, min-le_right}
+pub use Rattle.std.proofs.Math.Nat.{div-mul-le_self, min-eq_left, min-eq_right, min-le_right}
 pub use Rattle.std.proofs.Math.Pow.{pow_mono}
 pub use Rattle.std.proofs.Math.Seq.{take-suc}
 pub use Rattle.std.proofs.Output.{has_written_append, has_written_of_eq, has_written_styled_append, has_written_styled_of_eq}
@@ -72,6 +74,7 @@ pub use Rattle.std.specs.Cmp.Lexicographic.{pointwise}
 unfoldable pub use Rattle.std.specs.Fmt.{digits}
 pub use Rattle.std.specs.Fmt.{HasWritten, HasWrittenStyled, IsFlush, IsPlainFormatter}
 pub use Rattle.std.specs.Iterator.{MakesProgress, item_count}
+pub use Rattle.std.specs.Int.{from_bool}
 pub use Rattle.std.specs.List.{All, AllPairs, Contains, filter_map, flat_map}
 pub use Rattle.std.specs.List.Sorted.{IsNonDecreasingBy, IsPartitionPoint}
 pub use Rattle.std.specs.Option.{option_map}

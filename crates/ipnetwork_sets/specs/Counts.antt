@@ -6,7 +6,7 @@ use Rattle.ipnetwork_family.specs.declared.error.NetworkSizeError.{NetworkSizeEr
 use Rattle.ipnetwork_sets.specs.declared.address_count.AddressCount.{AddressCount}
 use Rattle.ipnetwork_sets.specs.declared.address_count.AddressCount.TheVariants.{Number, AllOfIpv6}
 
--- the number that a count stands for
+-- the number that a count represents
 abbrev pub count_number : AddressCount → ℕ
 count_number (Number n) = n
 count_number AllOfIpv6 = 2 ^ 128

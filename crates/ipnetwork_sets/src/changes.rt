@@ -1,7 +1,7 @@
 //! Adding networks to a set and removing them, in place.
 ghost use Rattle.std.specs.Prelude.{◌≡◌, ◌↔◌, ◌<◌, ◌≤◌, ◌++◌, ◌∷◌, [], IsTrue, IfOk, OnOk, OnErr, MatchOption, List, drop, length, map, take};
 ghost use Rattle.ipnetwork_family.specs.Network.{Network};
-ghost use Rattle.ipnetwork_blocks.specs.Aggregate.{LiesInUnion};
+ghost use Rattle.ipnetwork_blocks.specs.Aggregate.{IsAggregate, LiesInUnion};
 ghost use Rattle.ipnetwork_blocks.specs.LeastList.{IsLeastList};
 ghost use Rattle.ipnetwork_sets.specs.Sets.{IsAddressSet, MeetsUnion, InEither, InFirstAlone};
 
@@ -9,7 +9,7 @@ use crate::joining::join_around;
 use crate::place::place_of;
 use crate::replacing::{make_room, write_over};
 use crate::search::covers;
-use ipnetwork_blocks::{AddressSpace, exclude, laws};
+use ipnetwork_blocks::{AddressSpace, aggregate_vec, exclude, laws};
 use std::alloc::AllocError;
 
 /// Adds the addresses of the network to the set with these blocks, and returns whether any of them
@@ -34,6 +34,24 @@ pub(crate) fn insert<N: AddressSpace>(blocks: &mut Vec<N>, network: N) -> Result
     make_room(blocks, found.0, found.1, 1)?;
     blocks[found.0] = found.2;
     Ok(true)
+}
+
+/// Adds the addresses of the networks to the set with these blocks.
+pub(crate) fn insert_all<N: AddressSpace>(
+    blocks: &mut Vec<N>,
+    networks: &[N],
+) -> Result<(), AllocError>
+    requires { IsAddressSet N.WIDTH (map N.pair blocks.old.items) }
+    ensures set { OnOk result (IsAggregate N.WIDTH
+        (map N.pair blocks.old.items ++ map N.pair networks.now) (map N.pair blocks.new.items)) }
+    ensures room { OnErr result (0 < length networks.now) }
+    ensures unchanged { OnErr result (blocks.new.items ≡ blocks.old.items) }
+    ensures blocks { IsAddressSet N.WIDTH (map N.pair blocks.new.items) }
+{
+    laws::same_union();
+    blocks.extend_from_slice(networks)?;
+    aggregate_vec(blocks);
+    Ok(())
 }
 
 // The block that replaces the network and the blocks from the first index up to, but not including,

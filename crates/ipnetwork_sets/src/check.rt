@@ -37,7 +37,7 @@ fn has_no_host_bits<N: AddressSpace>(network: N) -> bool
     ensures told { IsTrue result ↔ HostBitsAreZero N.WIDTH (N.pair network) }
     ensures network { IsNetwork N.WIDTH (N.pair network) }
 {
-    network.ip() == network.network()
+    N::WIDTH - network.prefix() <= N::trailing_zeros(network.ip())
 }
 
 // Whether the second begins after the first ends, and the two are not the halves of one block.
@@ -52,11 +52,12 @@ pub(crate) fn are_halves<N: AddressSpace>(first: N, second: N) -> bool
     ensures { IsTrue result ↔ AreHalves N.WIDTH (N.pair first) (N.pair second) }
 {
     let prefix = first.prefix();
-    if prefix == 0 || second.prefix() != prefix {
+    let other_prefix = second.prefix();
+    if prefix == 0 || other_prefix != prefix {
         return false;
     }
-    match N::block(first.ip(), prefix - 1) {
-        Some(whole) => whole.contains(second.ip()),
-        None => false,
-    }
+    let one = first.ip();
+    let other = second.ip();
+    let shared = N::shared_bits(one, other);
+    prefix - 1 <= shared
 }

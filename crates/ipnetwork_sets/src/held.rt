@@ -1,5 +1,6 @@
 //! Lists of values that hold networks.
-ghost use Rattle.std.specs.Prelude.{◌≡◌, ◌<◌, ◌∷◌, [], MatchOption, length, map};
+ghost use Rattle.std.specs.Prelude.{◌≡◌, ◌<◌, ◌∷◌, [], MatchOption, drop, length, map};
+ghost use Rattle.std.specs.Int.{from_bool};
 ghost use Rattle.std.specs.List.{All};
 
 use ipnetwork_blocks::{AddressSpace, HoldsNetwork};
@@ -18,4 +19,14 @@ pub(crate) fn split_held<'a, N: AddressSpace, H: HoldsNetwork<N>>(
         return None;
     };
     Some(((*first).held_network(), others))
+}
+
+/// The values after the first if `skips` is true, else all of them. Without a branch, since nothing
+/// predicts which of two lists is the next to be skipped in.
+#[inline(always)]
+pub(crate) fn skip_first_if<'a, H>(list: &'a [H], skips: bool) -> &'a [H]
+    requires { 0 < length list.now }
+    ensures { result.now ≡ drop (from_bool skips) list.now }
+{
+    &list[usize::from(skips)..]
 }

@@ -1,4 +1,4 @@
-//! Joining a network that is added to a set with the blocks beside it.
+//! Joining a network that is added to a set with the blocks next to it.
 ghost use Rattle.std.specs.Prelude.{◌≡◌, ◌≤◌, ◌++◌, ◌∷◌, [], MatchOption, drop, length, map, take};
 ghost use Rattle.ipnetwork_blocks.specs.Aggregate.{LiesInUnion};
 ghost use Rattle.ipnetwork_blocks.specs.LeastList.{IsLeastList};

@@ -2,7 +2,7 @@
 //! nothing; its contract states laws, and the proof of a function that calls it can use them.
 ghost use Rattle.ipnetwork_sets.specs.ChangeLaws.{AddedHas, TakenHas};
 ghost use Rattle.ipnetwork_sets.specs.CountLaws.{SetAddsUp, CommonPartAddsUp, DifferenceAddsUp, SetHasFewerBlocks};
-ghost use Rattle.ipnetwork_sets.specs.Laws.{CommonPartIsShortest, DifferenceIsShortest, UnionIsShortest};
+ghost use Rattle.ipnetwork_sets.specs.Laws.{CommonPartIsShortest, DifferenceIsShortest, FreePartIsShortest, UnionIsShortest};
 
 use ipnetwork_blocks::laws;
 
@@ -12,10 +12,11 @@ use ipnetwork_blocks::laws;
 pub fn shortest()
     ensures common { CommonPartIsShortest }
     ensures difference { DifferenceIsShortest }
+    ensures free { FreePartIsShortest }
     ensures union { UnionIsShortest }
 {}
 
-/// The sizes of a set's blocks add up to the count of the set, and likewise for the intersection
+/// The sizes of a set's blocks add up to the count of the set, as do those of the intersection
 /// and the difference of two sets.
 pub fn sums()
     ensures set { SetAddsUp }

