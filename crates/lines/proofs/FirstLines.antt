@@ -1,4 +1,4 @@
--- The first lines of what was read, as they are handed out.
+-- The first lines of what was read, as they are returned.
 use Rattle.lines.proofs.Words.{◌≡◌, ℕ, Bool, false, List, [], ◌∷◌, ◌++◌, refl, sym, ap, ◌∙◌, subst, true≢false, append-nil, append_assoc, lines, Buffered, IsFirstLine, HandsOut, AreFirst, LineEnd, LineFeed, ReturnAndLineFeed, EndOfInput}
 
 pub next_first : (end : LineEnd) (ended : Bool) (read : List ℕ) (first : List (List ℕ)) (pending line after : List ℕ)
@@ -17,7 +17,7 @@ next_first EndOfInput ended read first pending line after h k =
     (h [] (λ f. refl) ∙ ap (λ l. first ++ l) last ∙ sym (append-nil (first ++ line ∷ []))
     ∙ ap (λ l. (first ++ line ∷ []) ++ l) (sym none))
 
--- a line that was handed out is the next one
+-- a line that was returned is the next one
 pub handed : (old new : Buffered) (read : List ℕ) (first : List (List ℕ)) (pending line : List ℕ) (end : LineEnd)
     → AreFirst old.ended read first pending → new.ended ≡ old.ended
     → (h : HandsOut new pending line end) → AreFirst new.ended read (first ++ line ∷ []) h.after

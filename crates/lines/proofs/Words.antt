@@ -1,12 +1,17 @@
 -- The words of this crate and of those below, passed on from one place.
 pub use Rattle.byte_search.specs.Bytes.{IsAbsent, IsNext}
+pub use Rattle.lines.specs.Buffers.{HasRoom}
+pub use Rattle.lines.specs.Faults.{ended_by_read, ended_by_write}
 pub use Rattle.lines.specs.LineBuffers.{AreFirst, Buffered, Gives, HandsOut, HasNoFeed, IsDropped, IsFirstLine, IsPending, waits}
 pub use Rattle.lines.specs.LineEnds.{end_bytes}
 pub use Rattle.lines.specs.Outputs.{AppendsBeginning, Puts}
 unfoldable pub use Rattle.lines.specs.Beginnings.{complete_part}
-pub use Rattle.lines.specs.Beginnings.{IsBeginning}
+pub use Rattle.lines.specs.Beginnings.{IsBeginning, asked}
 pub use Rattle.lines.specs.Private.Cuts.{HasFeed, IsCut}
 pub use Rattle.lines.specs.Private.Device.{failed_of, inner_of}
+pub use Rattle.lines.specs.Watched.{write_fails}
+pub use Rattle.lines.specs.declared.fault.RunFault.{RunFault}
+pub use Rattle.lines.specs.declared.fault.RunFault.TheVariants.{InputTooLong, Read, Write}
 pub use Rattle.lines.specs.declared.line_buffer.NextLine.TheVariants.{Line, TooLong}
 pub use Rattle.lines.specs.declared.line_end.Cut.{Cut}
 pub use Rattle.lines.specs.declared.line_end.LineEnd.{LineEnd}
@@ -22,5 +27,5 @@ pub use Rattle.std.proofs.lemmas.List.{drop-append-le, drop_all, drop_more, get_
 pub use Rattle.std.proofs.lemmas.Slice.{between_is}
 pub use Rattle.std.specs.Io.KnownBytes.{Appends}
 pub use Rattle.std.specs.List.{concat, copy_within, list_any, onto_first, slice_split}
-pub use Rattle.std.specs.Prelude.{Err, Ok, OnErr, OnOk, Option, Result, slice_index}
+pub use Rattle.std.specs.Prelude.{Err, None, Ok, OnErr, OnOk, Option, Result, Some, map, slice_index}
 pub use Rattle.std.specs.Str.Lines.{lines, lines_of_parts, strip_carriage_return}

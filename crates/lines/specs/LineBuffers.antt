@@ -1,4 +1,4 @@
--- How contracts see a `LineBuffer`: the bytes that were read, and the lines that are handed out of them.
+-- How contracts see a `LineBuffer`: the bytes that were read, and the lines of them that are returned.
 use Rattle.std.specs.Prelude.{◌≡◌, ℕ, ◌+◌, ◌<◌, ◌≤◌, Bool, true, false, if◌then◌else◌, List, [], ◌∷◌, ◌++◌, length}
 use Rattle.std.specs.Prelude.{take, drop, Option}
 use Rattle.std.specs.Io.KnownBytes.{Consumes, IsAtEnd}
@@ -10,7 +10,7 @@ use Rattle.lines.specs.declared.line_end.LineEnd.TheVariants.{LineFeed, ReturnAn
 use Rattle.lines.specs.declared.line_buffer.NextLine.{NextLine}
 use Rattle.lines.specs.declared.line_buffer.NextLine.TheVariants.{Line, TooLong, Ask, End}
 
--- a buffer, the bytes that wait in it, and the line that was handed out last
+-- a buffer, the bytes that wait in it, and the line that was returned last
 pub record Buffered : Type 0 where
   -- the buffer, and the positions between which its bytes wait
   pub bytes : List ℕ
@@ -22,7 +22,7 @@ pub record Buffered : Type 0 where
   pub dropped : Bool
   -- whether the last read reached the end of the input
   pub ended : Bool
-  -- the line that was handed out last, without its line ending and with it
+  -- the line that was returned last, without its line ending and with it
   pub line : List ℕ
   pub whole : List ℕ
 
@@ -39,7 +39,7 @@ abbrev pub IsDropped : Bool → ℕ → List ℕ → Type 0
 IsDropped false limit bytes = bytes ≡ []
 IsDropped true limit bytes = HasNoFeed bytes × (limit + 2 ≤ length bytes)
 
--- the bytes are pending, that is, they were read but not yet handed out: the bytes that were dropped, followed by the
+-- the bytes are pending, that is, they were read but not yet returned: the bytes that were dropped, followed by the
 -- bytes that wait
 pub record IsPending (held : Buffered) (pending : List ℕ) : Type 0 where
   pub gone : List ℕ
@@ -54,7 +54,8 @@ IsFirstLine ReturnAndLineFeed ended pending line after = (rest : List ℕ)
     → lines (pending ++ rest) ≡ line ∷ lines (after ++ rest)
 IsFirstLine EndOfInput ended pending line after = (ended ≡ true) × (after ≡ []) × (lines pending ≡ line ∷ [])
 
--- the line was handed out of the pending bytes, with its line ending, and the bytes after it are still pending
+-- the line was returned: it and its line ending were the first of the pending bytes, and those after them are still
+-- pending
 pub record HandsOut (held : Buffered) (pending line : List ℕ) (end : LineEnd) : Type 0 where
   pub after : List ℕ
   pub holds : IsPending held after
@@ -66,7 +67,7 @@ abbrev pub AreFirst : Bool → List ℕ → List (List ℕ) → List ℕ → Typ
 AreFirst ended read first pending = (more : List ℕ) → (ended ≡ true → more ≡ [])
     → lines (read ++ more) ≡ first ++ lines (pending ++ more)
 
--- what `next` hands out of the pending bytes, for each value that it returns
+-- what each result of `next` says of the pending bytes
 abbrev pub Gives : Buffered → List ℕ → NextLine → Type 0
 -- a line within the limit, which the buffer lends
 Gives new pending (Line end) = HandsOut new pending new.line end × (length new.line ≤ new.limit)
@@ -76,14 +77,14 @@ Gives new pending TooLong = (line : List ℕ) × (end : LineEnd) × HandsOut new
     × (new.limit < length line)
 -- nothing, because no line is complete yet
 Gives new pending Ask = IsPending new pending × HasNoFeed pending × HasNoFeed (waits new) × (new.ended ≡ false)
--- nothing, because all lines were handed out
+-- nothing, because all lines were returned
 Gives new pending End = (pending ≡ []) × IsPending new [] × (new.ended ≡ true)
 
--- a measure of what is left to hand out
+-- a measure of what is left to return
 abbrev pub work : Buffered → ℕ
 work held = length (waits held) + (if held.dropped then 1 else 0)
 
--- the measure is smaller after a line is handed out
+-- the measure is smaller after a line is returned
 abbrev pub IsLess : Buffered → Buffered → NextLine → Type 0
 IsLess old new (Line end) = work new < work old
 IsLess old new TooLong = work new < work old
@@ -100,7 +101,7 @@ pub record Receives (unread_before unread_after : Option (List ℕ)) (old new : 
   pub at_end : count ≡ 0 → IsAtEnd unread_after
 
 -- afterwards, the bytes that wait are at the front of the buffer. If they were at the front before, with room after
--- them, they are not moved. A byte is therefore moved at most once: the bytes after a line that was handed out came
+-- them, they are not moved. A byte is therefore moved at most once: the bytes after a line that was returned came
 -- with the last read
 abbrev pub Settles : Buffered → Buffered → Type 0
 Settles old new = (new.start ≡ 0) × (old.start ≡ 0 → old.end < length old.bytes

@@ -8,6 +8,7 @@
 
 pub mod buffer;
 pub mod fault;
+pub mod laws;
 pub mod line_buffer;
 pub mod line_end;
 pub mod line_reader;

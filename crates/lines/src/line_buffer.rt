@@ -33,7 +33,7 @@ pub enum NextLine {
     TooLong,
     /// No complete line yet: more bytes must be read with `ask`.
     Ask,
-    /// No line: the input has ended, and all of its lines were handed out.
+    /// No line: the input has ended, and all of its lines were returned.
     End,
 }
 
@@ -43,7 +43,7 @@ const MOST_AT_ONCE: usize = 131_072;
 
 /// The lines of the bytes that are read into a buffer, which the caller lends.
 ///
-/// `next` hands out one line at a time and calls no device. If it needs more bytes, it says so, and
+/// `next` returns one line at a time and calls no device. If it needs more bytes, it says so, and
 /// `ask` makes one read. The caller thus decides what happens between two reads. A line is lent
 /// from the buffer in place: none of its bytes is copied, and none is moved while its line feed is
 /// in the buffer. `ask` moves the bytes of an incomplete line to the front of the buffer, unless
@@ -71,7 +71,7 @@ const MOST_AT_ONCE: usize = 131_072;
 pub struct LineBuffer<'b> {
     buffer: &'b mut [u8],
     limit: usize,
-    // The line that was handed out last.
+    // The line that was returned last.
     line_start: usize,
     line_end: usize,
     // The bytes that wait. There is no line feed among those before `searched`.
@@ -143,7 +143,7 @@ impl<'b> LineBuffer<'b> {
         }
     }
 
-    /// Returns the line that `next` handed out last, without its line ending. It is available until
+    /// Returns the line that `next` returned last, without its line ending. It is available until
     /// the next call of `ask`.
     ///
     /// ```
@@ -157,7 +157,7 @@ impl<'b> LineBuffer<'b> {
         &self.buffer[self.line_start..self.line_end]
     }
 
-    /// Returns the line that `next` handed out last, with its line ending. It is available until
+    /// Returns the line that `next` returned last, with its line ending. It is available until
     /// the next call of `ask`.
     ///
     /// ```
@@ -197,7 +197,7 @@ impl<'b> LineBuffer<'b> {
         self.dropped || self.end - self.start >= self.limit + 2
     }
 
-    /// Hands out the next line, or says why there is none. No byte is moved or copied.
+    /// Advances to the next line, or says why there is none. No byte is moved or copied.
     ///
     /// ```
     /// use lines::line_buffer::NextLine;

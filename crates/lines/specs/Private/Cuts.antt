@@ -21,7 +21,7 @@ pub record IsCut (waiting : List ℕ) (cut : Cut) : Type 0 where
   pub bytes : take cut.before waiting ++ 10 ∷ [] ≡ strip_carriage_return (take cut.before waiting) ++ end_bytes cut.end
   pub has_feed : HasFeed cut.end
 
--- the positions in a buffer of this size: of the line that was handed out last, and of the bytes that wait
+-- the positions in a buffer of this size: of the line that was returned last, and of the bytes that wait
 pub record IsOrdered (line_start line_end start searched end size : ℕ) : Type 0 where
   pub before : line_start ≤ start
   pub of_line : line_start ≤ line_end

@@ -40,7 +40,7 @@ impl<'b, R: Read> LineReader<'b, R> {
         }
     }
 
-    /// Returns the line that `next` handed out last, without its line ending. It is available until
+    /// Returns the line that `next` returned last, without its line ending. It is available until
     /// the next call of `ask`.
     ///
     /// ```
@@ -58,7 +58,7 @@ impl<'b, R: Read> LineReader<'b, R> {
         self.buffer.line()
     }
 
-    /// Returns the line that `next` handed out last, with its line ending. It is available until
+    /// Returns the line that `next` returned last, with its line ending. It is available until
     /// the next call of `ask`.
     ///
     /// ```
@@ -83,8 +83,8 @@ impl<'b, R: Read> LineReader<'b, R> {
         self.buffer.is_too_long()
     }
 
-    /// Hands out the next line, or says why there is none. The device is not called, and no byte is
-    /// moved or copied.
+    /// Advances to the next line, or says why there is none. The device is not called, and no byte
+    /// is moved or copied.
     ///
     /// ```
     /// # use cidr_programs::in_examples::*;

@@ -1,4 +1,4 @@
--- What is handed out is the first line of the pending bytes.
+-- The line that is returned is the first of the pending bytes.
 use Rattle.lines.proofs.Words.{◌≡◌, ◌≢◌, ◌⊎◌, inl, inr, ℕ, zero, suc, ◌+◌, ◌-◌, ◌<◌, ◌≤◌, Bool, true, false, cond, List, [], ◌∷◌, ◌++◌, length, take, drop, refl, sym, ap, subst, ◌∙◌, append_assoc, append-nil, length-append, length-take, length-drop, true≢false, arith, eqb_tells, take-append-le, take-take, length-take-le, drop_all, drop-append-le, take_more, take_all, get_or-drop, between_is, drop-nil, copy_within, slice_index, lines, strip_carriage_return, IsAbsent, IsNext, Buffered, waits, HasNoFeed, IsDropped, IsPending, IsFirstLine, HandsOut, Gives, end_bytes, HasFeed, IsCut, Line, TooLong, Cut, LineEnd, LineFeed, ReturnAndLineFeed, EndOfInput}
 use Rattle.lines.proofs.BytesLemmas.{HasNo, IsFirst, none_behind, first_behind, split_text, first_line, strip_length}
 use Rattle.lines.proofs.Lines.{last_line, lines_line, lines_last}
