@@ -19,7 +19,7 @@ skipped_lines = refl
 pub skipped_in_front : filter (λ byte. bytes_eq (entry_text (byte ∷ codes "::1")) (codes "::1")) bytes ≡ 9 ∷ 32 ∷ []
 skipped_in_front = refl
 
--- the bytes behind a text of which the text alone is left, with and without others behind them
+-- the bytes after a text of which the text alone is left, with and without others after them
 pub skipped_at_the_end : filter (λ byte. bytes_eq (entry_text (codes "::1" ++ byte ∷ [])) (codes "::1")) bytes
     ≡ 9 ∷ 32 ∷ 35 ∷ 59 ∷ []
 skipped_at_the_end = refl
@@ -28,7 +28,7 @@ pub skipped_with_more : filter (λ byte. bytes_eq (entry_text (codes "::1" ++ by
     ≡ 35 ∷ 59 ∷ []
 skipped_with_more = refl
 
--- a comment's first words: behind its marks and blanks, up to the next mark
+-- a comment's first words: after its marks and blanks, up to the next mark
 pub gaps : filter is_gap bytes ≡ 9 ∷ 32 ∷ 35 ∷ 59 ∷ []
 gaps = refl
 

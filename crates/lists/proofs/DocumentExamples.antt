@@ -15,7 +15,7 @@ nested = array
     (item (number (unsigned 7))
     (item (boolean true) (item (array (item (array no_items) no_items)) (item (string (codes "a")) no_items))))))
 
--- at any depth, in order, and a string that stands there twice is told twice
+-- at any depth, in order, and a string that is there twice is reported twice
 pub strings_at_any_depth : strings_of nested ≡ codes "b" ∷ codes "c" ∷ codes "b" ∷ codes "a" ∷ codes "a" ∷ []
 strings_at_any_depth = refl
 
@@ -62,11 +62,11 @@ module _ (known : KnownLists) (strings : Strings) (list : ℕ) (name : List ℕ)
   nothing_is_kept (Length place) h = inl h.3
   nothing_is_kept (Cut place) h = absurd h
   nothing_is_kept (NotJson place line encoding) h = inl h.3
-  nothing_is_kept (NoField place) h = inl h.3
+  nothing_is_kept (NoField place field) h = inl h.3
   nothing_is_kept OutOfMemory (inl (lacks, same)) = inl same
   nothing_is_kept OutOfMemory (inr (reads, out)) = inr out
 
-  -- a longer document is neither read nor told as none
+  -- a longer document is neither read nor reported as none
   pub what_is_read_is_short : (input : List ℕ) → ReadsDocument known strings list name before after
       → known.bytes_of name ≡ Some input → length input ≤ 1073741824
   what_is_read_is_short input h e = let takes = h.1 input e in takes.1.0

@@ -1,5 +1,5 @@
 -- What is taken of a document.
-use Rattle.lists.proofs.Words.{◌≡◌, ◌<◌, ℕ, Bool, true, false, List, [], ◌∷◌, ◌++◌, refl, subst, length, inl, inr, Result, Ok, Err, OnOk, IfErr, IsAllOf, BytesStop, AreNoDocuments, LackFields, Strings, encoding_of, TakesStrings, TakesDocuments, ReadsDocument, StopsAtDocument, KnownLists, ReadLists, at_list, TakesBytes, FailsBytes, not_read, BytesFault, ReadFault}
+use Rattle.lists.proofs.Words.{◌≡◌, ◌<◌, ℕ, Bool, true, false, List, [], ◌∷◌, ◌++◌, refl, subst, length, inl, inr, Result, Ok, Err, OnOk, IfErr, IsAllOf, BytesStop, AreNoDocuments, LackField, Strings, encoding_of, TakesStrings, TakesDocuments, ReadsDocument, StopsAtDocument, KnownLists, ReadLists, at_list, TakesBytes, FailsBytes, not_read, BytesFault, ReadFault}
 use Rattle.lists.specs.declared.bytes.BytesFault.TheVariants as unread
 use Rattle.lists.specs.declared.named.ReadFault.TheVariants as faults
 
@@ -43,8 +43,8 @@ module _ (known : KnownLists) (strings : Strings) (name : List ℕ) (number : �
           (h.1, h.2)),
       h.3,
     )
-    fails_by (faults.NoField place) h =
-        (h.0, all.0, (λ input e. subst (λ (b : List ℕ). LackFields strings b) (all.1 input e) h.1), h.2)
+    fails_by (faults.NoField place field) h =
+        (h.0, all.0, (λ input e. subst (λ (b : List ℕ). LackField strings field b) (all.1 input e) h.1), h.2)
     fails_by faults.OutOfMemory (inl h) =
         inl ((all.0, λ input e. subst (λ (b : List ℕ). 0 < length b) (all.1 input e) h.0), h.1)
     fails_by faults.OutOfMemory (inr h) = inr (document_read true h, h.1)

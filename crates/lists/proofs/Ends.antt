@@ -1,7 +1,7 @@
 -- How lists end.
 use Rattle.lists.proofs.Words.{◌≡◌, ◌≢◌, ◌∙◌, ◌==◌, ◌<◌, ◌-◌, ◌^◌, ℕ, Bool, true, false, inl, inr, List, [], ◌∷◌, ◌++◌, length, refl, sym, ap, subst, arith, cond, append-nil, length-append, Option, None, Some, Consumes, IsAtEnd, Consumes-trans, ltb-true, ltb-false, nat_lt, lines, Buffered, HasNoFeed, IsPending, AreFirst, IsFirstLine, Gives, LineEnd, Line, TooLong, Ask, End, LineFeed, ReturnAndLineFeed, EndOfInput, has_no, last_line, lines_from, lines-append, lines_last, lines_split, pending_from, pending-append, pending_other, newline_cases, ReadLists, EndsWithFeed, TellsEnd, TellsNone}
 use Rattle.std.specs.Prelude.{◌&&◌}
-use Rattle.lists.proofs.Handed.{TakesSoFar, lines_nothing, whole_input}
+use Rattle.lists.proofs.ReturnedLines.{TakesSoFar, lines_nothing, whole_input}
 
 -- ---- what is pending at the end
 
@@ -107,7 +107,7 @@ tells_end left between rest old mid start now room less s chunk empty same consu
 
 -- ---- whether there was a line
 
--- whether no line was handed out yet, so that all is pending, or one was, so that something was pending
+-- whether no line was returned yet, so that all is pending, or one was, so that something was pending
 abbrev pub NoneYet : Bool → Buffered → List ℕ → Type 0
 NoneYet true held pending = IsPending held pending
 NoneYet false held pending = pending ≢ []
@@ -142,7 +142,7 @@ pub no_line_yet : (none : Bool) (old new : Buffered) (pending : List ℕ) → No
 no_line_yet true old new pending yet ended gives = absurd (let a = (gives pending yet).3 in cc)
 no_line_yet false old new pending yet ended gives = yet
 
--- ---- what the Boolean tells
+-- ---- what the Boolean says
 
 pub told_cut : (ends out : Bool) (input : List ℕ) → ends ≡ false → TellsEnd ends out input → ¬ (EndsWithFeed input)
 told_cut true out input is told = absurd (let q = is in cc)

@@ -1,5 +1,5 @@
 -- The strings of fields and the documents of lines, at values at which a misreading of the definitions would show.
-use Rattle.lists.proofs.Words.{◌≡◌, ℕ, Bool, true, false, List, [], ◌∷◌, refl, map, codes, Option, Some, None, Data, null, boolean, number, unsigned, string, array, object, no_items, item, no_members, member, serde_json_on_literals, is_named, has_field, field_strings_of, documents_of}
+use Rattle.lists.proofs.Words.{◌≡◌, ℕ, Bool, true, false, List, [], ◌∷◌, refl, map, codes, Option, Some, None, Data, null, boolean, number, unsigned, string, array, object, no_items, item, no_members, member, serde_json_on_literals, is_named, has_field, first_lacking, field_strings_of, documents_of}
 
 -- ---- the strings of fields
 
@@ -38,14 +38,24 @@ pub named : map (is_named (codes "ab" ∷ [])) (codes "ab" ∷ codes "a" ∷ cod
     ≡ true ∷ false ∷ false ∷ false ∷ false ∷ []
 named = refl
 
-pub fields_found : map (λ name. has_field (name ∷ []) fields) (codes "b" ∷ codes "c" ∷ codes "d" ∷ codes "1" ∷ [])
+pub fields_found : map (λ name. has_field name fields) (codes "b" ∷ codes "c" ∷ codes "d" ∷ codes "1" ∷ [])
     ≡ true ∷ true ∷ false ∷ false ∷ []
 fields_found = refl
 
 -- a field is there whatever it holds, also within another
-pub null_is_a_field : has_field (codes "a" ∷ []) (array (item (object (member (codes "b")
+pub null_is_a_field : has_field (codes "a") (array (item (object (member (codes "b")
     (object (member (codes "a") null no_members)) no_members)) no_items)) ≡ true
 null_is_a_field = refl
+
+-- each name has to be one of a member of some document, and the first that is not is found
+pub names_lacking : map (λ names. first_lacking names (null ∷ fields ∷ []))
+    ((codes "a" ∷ codes "c" ∷ codes "b" ∷ []) ∷ (codes "a" ∷ codes "d" ∷ codes "c" ∷ codes "A" ∷ []) ∷ (codes "" ∷ [])
+    ∷ [] ∷ []) ≡ None ∷ Some 1 ∷ Some 0 ∷ Some 0 ∷ []
+names_lacking = refl
+
+pub in_any_document : map (first_lacking (codes "a" ∷ codes "x" ∷ [])) ((fields ∷ object
+    (member (codes "x") null no_members) ∷ []) ∷ (fields ∷ []) ∷ (null ∷ []) ∷ [] ∷ []) ≡ None ∷ Some 1 ∷ Some 0 ∷ Some 0 ∷ []
+in_any_document = refl
 
 -- ---- documents of lines
 

@@ -1,7 +1,7 @@
 -- Masks, wildcards and ends of lists at which a misreading of their definitions would show.
 use Rattle.lists.proofs.Words.{◌≡◌, ◌∙◌, ◌≤◌, ℕ, List, [], ◌∷◌, ◌++◌, refl, ap, inl, inr, arith, codes, length, length-append, EndsWithFeed, IsBoth, IsMask, IsWildcard, SaysLength, after_word, first_word}
 
--- the blanks between two words are spaces and tabs, and those behind the second belong to neither
+-- the blanks between two words are spaces and tabs, and those after the second belong to neither
 pub two_words : (first_word (codes "10.0.0.0 \t255.0.0.0\t ") ≡ codes "10.0.0.0")
     × (after_word (codes "10.0.0.0 \t255.0.0.0\t ") ≡ codes "255.0.0.0")
 two_words = (refl, refl)
@@ -35,7 +35,7 @@ pub nothing_after_zero : (p : ℕ) → ¬ (SaysLength 0 0 p)
 nothing_after_zero p (inl h) = h.0 (inl refl)
 nothing_after_zero p (inr h) = h.1 refl
 
--- a list ends with a line feed if that is its last byte, even if nothing stands before it
+-- a list ends with a line feed if that is its last byte, even if nothing is before it
 pub ends_with_a_feed : EndsWithFeed (10 ∷ []) × EndsWithFeed (codes "::1\r\n")
 ends_with_a_feed = (([], refl), (codes "::1\r", refl))
 

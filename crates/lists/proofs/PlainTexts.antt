@@ -13,7 +13,7 @@ IsQuiet byte = (is_blank byte ≡ false) × (begins_comment byte ≡ false)
 abbrev pub IsPlain : ℕ → Type 0
 IsPlain byte = (is_dash byte ≡ false) × IsQuiet byte
 
-neither : (a b : Bool) → a ≡ false → b ≡ false → (a || b) ≡ false
+pub neither : (a b : Bool) → a ≡ false → b ≡ false → (a || b) ≡ false
 neither false false x y = refl
 neither false true x y = y
 neither true b x y = absurd (one_zero x)
@@ -43,11 +43,11 @@ all_append : (P : ℕ → Type 0) (a b : List ℕ) → AllByRecursion P a → Al
 all_append P [] b x y = y
 all_append P (v ∷ a) b x y = (x.0, all_append P a b x.1 y)
 
-all_as : (P Q : ℕ → Type 0) → ((x : ℕ) → P x → Q x) → (text : List ℕ) → AllByRecursion P text → AllByRecursion Q text
+pub all_as : (P Q : ℕ → Type 0) → ((x : ℕ) → P x → Q x) → (text : List ℕ) → AllByRecursion P text → AllByRecursion Q text
 all_as P Q f [] h = tt
 all_as P Q f (x ∷ text) h = (f x h.0, all_as P Q f text h.1)
 
-all_at : (P : ℕ → Type 0) (text : List ℕ) (i d : ℕ) → AllByRecursion P text → i < length text → P (get_or text i d)
+pub all_at : (P : ℕ → Type 0) (text : List ℕ) (i d : ℕ) → AllByRecursion P text → i < length text → P (get_or text i d)
 all_at P [] i d h below = absurd (omega (arith, below))
 all_at P (x ∷ text) zero d h below = h.0
 all_at P (x ∷ text) (suc i) d h below = all_at P text i d h.1 (omega (arith, below))
@@ -97,7 +97,7 @@ v4_suffix_plain texts text p (fits, inr mask) = address_plain NamesV4 texts text
 v6_suffix_plain : (text : List ℕ) (p : ℕ) → IsV6Suffix text p → AllByRecursion IsPlain text
 v6_suffix_plain text p (fits, number) = number_plain text p number
 
-absent : (p : ℕ → Bool) (P : ℕ → Type 0) → ((x : ℕ) → P x → p x ≡ false) → (text : List ℕ) → AllByRecursion P text
+pub absent : (p : ℕ → Bool) (P : ℕ → Type 0) → ((x : ℕ) → P x → p x ≡ false) → (text : List ℕ) → AllByRecursion P text
     → position_or_len p text ≡ length text
 absent p P fails [] h = refl
 absent p P fails (x ∷ text) h =

@@ -1,4 +1,4 @@
--- Comments, and what stands before and after a byte.
+-- Comments, and what comes before and after a byte.
 use Rattle.lists.proofs.Words.{◌≡◌, ◌==◌, ◌||◌, ◌+◌, ℕ, suc, cond, not, Bool, true, false, List, [], ◌∷◌, length, take, drop, drop_all, arith, sym, ap, ◌∙◌, refl, after_first, before_first, position_or_len, eq-eqb, ne_eqb, take_all, position_or_len_is, IsAbsent, IsNext, begins_comment, before_comment}
 
 -- no byte of this value

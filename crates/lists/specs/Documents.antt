@@ -4,11 +4,10 @@ use Rattle.std.specs.Prelude.{Option, None, Some, if◌then◌else◌}
 use Rattle.std.specs.Prelude.{Result, Ok, Err}
 use Rattle.serde_json.specs.Data.{Data, null, boolean, number, string, array, object, Items, no_items, item, Members}
 use Rattle.serde_json.specs.Data.{no_members, member}
-use Rattle.std.specs.List.{list_any}
 use Rattle.lines.specs.Beginnings.{asked}
 use Rattle.lists.specs.Encodings.{encoding_of}
 use Rattle.lists.specs.Entries.{ReadsText}
-use Rattle.lists.specs.Fields.{field_strings_of, has_field}
+use Rattle.lists.specs.Fields.{field_strings_of, first_lacking}
 use Rattle.lists.specs.JsonTexts.{documents_of}
 use Rattle.lists.specs.KnownLists.{KnownLists}
 use Rattle.lists.specs.Lists.{ReadLists, at_list, at_next_line, refusing, TakesAllowed}
@@ -84,11 +83,12 @@ is_strict LookingLikeEntries = false
 is_strict All = true
 is_strict (OfFields names) = true
 
--- if only fields are taken, a document has one
-abbrev pub has_fields : Strings → List Data → Bool
-has_fields LookingLikeEntries documents = true
-has_fields All documents = true
-has_fields (OfFields names) documents = list_any (has_field names) documents
+-- if only fields are taken, each of the names has to be one of a member of the documents: the place of the first that is
+-- not, among the names
+abbrev pub lacking : Strings → List Data → Option ℕ
+lacking LookingLikeEntries documents = None
+lacking All documents = None
+lacking (OfFields names) documents = first_lacking names documents
 
 -- the bytes are these documents: there are at most 1,073,741,824, in UTF-8, and they are JSON, or lines of JSON, of at
 -- most 127 levels
@@ -99,14 +99,16 @@ AreDocuments bytes documents = (length bytes ≤ 1073741824) × IsUtf8 bytes × 
 abbrev pub AreNoDocuments : List ℕ → Type 0
 AreNoDocuments bytes = (length bytes ≤ 1073741824) × (IsUtf8 bytes → documents_of bytes ≡ None)
 
--- the bytes are documents, which have fields if only these are taken, and their strings are taken, one after another
+-- the bytes are documents, which have each of the fields if only these are taken, and their strings are taken, one after
+-- another
 abbrev pub TakesDocuments : Strings → ReadLists → List ℕ → ReadLists → Type 0
 TakesDocuments strings before bytes after = (documents : List Data) × AreDocuments bytes documents
-    × (has_fields strings documents ≡ true) × TakesStrings (is_strict strings) before (strings_of_all strings documents) after
+    × (lacking strings documents ≡ None) × TakesStrings (is_strict strings) before (strings_of_all strings documents) after
 
--- the bytes are documents that have none of the fields
-abbrev pub LackFields : Strings → List ℕ → Type 0
-LackFields strings bytes = (documents : List Data) × AreDocuments bytes documents × (has_fields strings documents ≡ false)
+-- the bytes are documents, and the name at this place is the first of which they have no field
+abbrev pub LackField : Strings → ℕ → List ℕ → Type 0
+LackField strings name bytes = (documents : List Data) × AreDocuments bytes documents
+    × (lacking strings documents ≡ Some name)
 
 -- the document of this name was opened, and, if its bytes are known, its strings are taken; refused strings name it by
 -- the number `list`
@@ -142,10 +144,10 @@ StopsAtDocument known strings list name before (NotJson place line encoding) aft
     (place ≡ list) × known.may_open name true
     × ((input : List ℕ) → known.bytes_of name ≡ Some input → AreNoDocuments input × (encoding ≡ encoding_of input))
     × (after ≡ before)
--- only fields are taken, and the document has none of them
-StopsAtDocument known strings list name before (NoField place) after =
+-- only fields are taken, and the document does not have the one of the name at `field`
+StopsAtDocument known strings list name before (NoField place field) after =
     (place ≡ list) × known.may_open name true
-    × ((input : List ℕ) → known.bytes_of name ≡ Some input → LackFields strings input) × (after ≡ before)
+    × ((input : List ℕ) → known.bytes_of name ≡ Some input → LackField strings field input) × (after ≡ before)
 -- there was no memory for the document, or memory ran out for an entry of it
 StopsAtDocument known strings list name before OutOfMemory after =
     (LacksMemory known name × (after ≡ before))

@@ -27,7 +27,7 @@ HasDash text = position_or_len is_dash text < length text
 abbrev pub NamesEnds : List ℕ → List ℕ → IpAddr → IpAddr → Type 0
 NamesEnds before after first last = NamesIp (trimmed before) first × NamesIp (trimmed after) last
 
--- what stands before the first `-` of the text and what stands after it, without the blanks around each, name these
+-- what comes before the first `-` of the text and what comes after it, without the blanks around each, name these
 -- addresses
 abbrev pub NamesBoth : List ℕ → IpAddr → IpAddr → Type 0
 NamesBoth text first last = NamesEnds (before_first is_dash text) (after_first is_dash text) first last
@@ -50,7 +50,7 @@ NamesEntry text (entries.Range first last) = HasDash text × NamesBoth text firs
 abbrev pub IsPlainCause : List ℕ → EntryFault → Type 0
 -- a text without a `-` has two or more slashes
 IsPlainCause text faults.Format = ¬ (HasDash text) × IsIpCause text causes.Format
--- a text without a `-` has at most one slash, and what stands before it is no address; or the two ends of a text with a
+-- a text without a `-` has at most one slash, and what comes before it is no address; or the two ends of a text with a
 -- `-` are not both addresses
 IsPlainCause text faults.Address = (¬ (HasDash text) × IsIpCause text causes.Addr)
     ⊎ (HasDash text × ((first last : IpAddr) → ¬ (NamesBoth text first last)))
@@ -81,7 +81,7 @@ ReadsText text result =
     MatchResult result (NamesEntry text) (λ fault. IsEntryCause text fault
     × ((entry : Entry) → ¬ (NamesEntry text entry)))
 
--- the text of the entry of a line: what stands before a comment, without the blanks around it
+-- the text of the entry of a line: what comes before a comment, without the blanks around it
 abbrev pub entry_text : List ℕ → List ℕ
 entry_text line = trimmed (before_comment line)
 

@@ -1,4 +1,4 @@
--- Why a line is refused, as messages tell it.
+-- Why a line is refused, as messages report it.
 use Rattle.std.specs.Prelude.{ℕ, List, codes}
 use Rattle.lists.specs.Encodings.{encoding_text}
 use Rattle.lists.specs.declared.entry.EntryFault.{EntryFault}

@@ -1,5 +1,7 @@
 -- The strings of fields: of members of JSON's objects that have one of some names.
-use Rattle.std.specs.Prelude.{◌≡◌, ◌||◌, ℕ, Bool, true, false, List, [], ◌∷◌, ◌++◌, bytes_eq, codes, if◌then◌else◌}
+use Rattle.std.specs.Prelude.{◌≡◌, ◌||◌, ℕ, Bool, true, false, not, List, [], ◌∷◌, ◌++◌, Option, Some, bytes_eq, codes}
+use Rattle.std.specs.Prelude.{if◌then◌else◌}
+use Rattle.std.specs.List.{list_any, position}
 use Rattle.serde_json.specs.Data.{Data, null, boolean, number, string, array, object, Items, no_items, item, Members}
 use Rattle.serde_json.specs.Data.{no_members, member}
 
@@ -8,24 +10,33 @@ abbrev pub is_named : List (List ℕ) → List ℕ → Bool
 is_named [] key = false
 is_named (name ∷ names) key = bytes_eq name key || is_named names key
 
--- a member of one of the names stands in the value, at any depth
+-- a member of this name is in the value, at any depth
 abbrev mutual
-  pub has_field : List (List ℕ) → Data → Bool
-  has_field names null = false
-  has_field names (boolean b) = false
-  has_field names (number n) = false
-  has_field names (string text) = false
-  has_field names (array values) = items_have_field names values
-  has_field names (object members) = members_have_field names members
+  pub has_field : List ℕ → Data → Bool
+  has_field name null = false
+  has_field name (boolean b) = false
+  has_field name (number n) = false
+  has_field name (string text) = false
+  has_field name (array values) = items_have_field name values
+  has_field name (object members) = members_have_field name members
 
-  pub items_have_field : List (List ℕ) → Items → Bool
-  items_have_field names no_items = false
-  items_have_field names (item value values) = has_field names value || items_have_field names values
+  pub items_have_field : List ℕ → Items → Bool
+  items_have_field name no_items = false
+  items_have_field name (item value values) = has_field name value || items_have_field name values
 
-  pub members_have_field : List (List ℕ) → Members → Bool
-  members_have_field names no_members = false
-  members_have_field names (member key value members) =
-      is_named names key || (has_field names value || members_have_field names members)
+  pub members_have_field : List ℕ → Members → Bool
+  members_have_field name no_members = false
+  members_have_field name (member key value members) =
+      bytes_eq name key || (has_field name value || members_have_field name members)
+
+-- a member of this name is in one of the documents
+abbrev pub have_field : List Data → List ℕ → Bool
+have_field documents name = list_any (has_field name) documents
+
+-- the place, among the names, of the first one of which the documents have no member; of no names, 0
+abbrev pub first_lacking : List (List ℕ) → List Data → Option ℕ
+first_lacking [] documents = Some 0
+first_lacking (name ∷ names) documents = position (λ one. not (have_field documents one)) (name ∷ names)
 
 -- the text of a field, and nothing outside of fields
 abbrev pub if_within : Bool → List ℕ → List (List ℕ)

@@ -1,6 +1,7 @@
 -- What the contracts of this crate cite.
 pub mod Added
 pub mod Bytes
+pub mod CsvLines
 pub mod Documents
 pub mod Encodings
 pub mod Entries
@@ -9,6 +10,7 @@ pub mod Fields
 pub mod JsonTexts
 pub mod KnownLists
 pub mod Laws
+pub mod LineForms
 pub mod Lines
 pub mod Lists
 pub mod Looks

@@ -10,7 +10,7 @@ is_blank byte = byte == 32 || byte == 9
 abbrev pub begins_comment : ℕ → Bool
 begins_comment byte = byte == 35 || byte == 59
 
--- what stands before the first `#` or `;` of a line, or the whole line if it has neither
+-- what comes before the first `#` or `;` of a line, or the whole line if it has neither
 abbrev pub before_comment : List ℕ → List ℕ
 before_comment line = before_first begins_comment line
 
@@ -34,7 +34,7 @@ trimmed_by is_one text = without_end is_one (without_front is_one text)
 abbrev pub trimmed : List ℕ → List ℕ
 trimmed text = trimmed_by is_blank text
 
--- what stands from the first `#` or `;` of a line on, or nothing if it has neither
+-- what comes from the first `#` or `;` of a line on, or nothing if it has neither
 abbrev pub comment_of : List ℕ → List ℕ
 comment_of line = drop (position_or_len begins_comment line) line
 

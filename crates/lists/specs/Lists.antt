@@ -8,7 +8,7 @@ use Rattle.ipnetwork.specs.IpNetworks.{IpMember}
 use Rattle.ipnetwork_blocks.specs.Aggregate.{InUnion}
 use Rattle.lines.specs.Beginnings.{asked}
 use Rattle.lists.specs.Entries.{IsRange}
-use Rattle.lists.specs.Masks.{ReadsEntryBy}
+use Rattle.lists.specs.LineForms.{ReadsEntryBy}
 use Rattle.lists.specs.declared.entry.Entry.{Entry}
 use Rattle.lists.specs.declared.entry.Entry.TheVariants as entries
 use Rattle.lists.specs.declared.entry.EntryFault.{EntryFault}

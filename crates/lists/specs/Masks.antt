@@ -10,7 +10,6 @@ use Rattle.lists.specs.declared.entry.Entry.{Entry}
 use Rattle.lists.specs.declared.entry.Entry.TheVariants as entries
 use Rattle.lists.specs.declared.entry.EntryFault.{EntryFault}
 use Rattle.lists.specs.declared.entry.EntryFault.TheVariants.{Mask, Second}
-use Rattle.lists.specs.declared.rules.Rules.{Rules}
 
 -- the number of 32 bits is the mask of this prefix length: its first p bits are ones, and the others zeros
 abbrev pub IsMask : ℕ → ℕ → Type 0
@@ -84,7 +83,3 @@ ReadsWithMasks line (Err fault) = (entry_text line ≢ []) × IsRefusedWithMasks
 abbrev pub ReadsAs : Bool → List ℕ → Result (Option Entry) EntryFault → Type 0
 ReadsAs false line result = ReadsEntry line result
 ReadsAs true line result = ReadsWithMasks line result
-
--- reading the line by these rules gives this result
-abbrev pub ReadsEntryBy : Rules → List ℕ → Result (Option Entry) EntryFault → Type 0
-ReadsEntryBy rules line result = ReadsAs rules.takes_masks line result

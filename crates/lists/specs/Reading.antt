@@ -46,7 +46,7 @@ StopsAt known number name before (Cut place) refused = (place ≡ number) × kno
 -- these three faults do not occur: a list may have any length and any text
 StopsAt known number name before (Length place) refused = ⊥
 StopsAt known number name before (NotJson place line encoding) refused = ⊥
-StopsAt known number name before (NoField place) refused = ⊥
+StopsAt known number name before (NoField place field) refused = ⊥
 -- memory ran out for an entry of the list
 StopsAt known number name before OutOfMemory refused = (after : ReadLists) × ReadsFirst known number name before after
     × (after.is_out_of_memory ≡ true) × (refused ≡ after.refused)
@@ -61,7 +61,7 @@ StopsAtText number text before (Read place) refused = ⊥
 StopsAtText number text before (Length place) refused = ⊥
 StopsAtText number text before (NotJson place line encoding) refused = ⊥
 StopsAtText number text before (Cut place) refused = ⊥
-StopsAtText number text before (NoField place) refused = ⊥
+StopsAtText number text before (NoField place field) refused = ⊥
 -- memory ran out for an entry of the text
 StopsAtText number text before OutOfMemory refused = (after : ReadLists)
     × TakesLines (at_list before number) (lines text) after × (after.is_out_of_memory ≡ true)

@@ -4,11 +4,12 @@ use Rattle.ipnetwork.specs.declared.ip_network.IpNetwork.TheVariants as networks
 use Rattle.ipnetwork_family.specs.Network.{low}
 use Rattle.lists.specs.declared.entry.Entry.{Entry}
 use Rattle.lists.specs.declared.entry.Entry.TheVariants as entries
+use Rattle.lists.specs.declared.forms.LineForm.TheVariants.{Plain}
 use Rattle.lists.specs.declared.rules.Rules.{Rules}
 
--- the rules that refuse nothing, and by which an entry has one word
+-- the rules that refuse nothing, and by which lines are plain and an entry has one word
 abbrev pub lenient : Rules
-lenient = record { refuses_host_bits = false; is_whole = false; takes_masks = false }
+lenient = record { refuses_host_bits = false; is_whole = false; takes_masks = false; form = Plain }
 
 -- the entry is a network whose address is not the least of its addresses
 abbrev pub has_host_bits : Entry → Bool

@@ -1,5 +1,5 @@
 -- What is taken of a list that is not read to its end, or that is refused for its end.
-use Rattle.std.specs.Prelude.{◌≡◌, ℕ, ◌-◌, ◌^◌, ◌<◌, Bool, true, false, List, [], ◌∷◌, ◌++◌, length, Option, Some, Result}
+use Rattle.std.specs.Prelude.{◌≡◌, ◌==◌, ℕ, ◌-◌, ◌^◌, ◌<◌, get_or, Bool, true, false, List, [], ◌∷◌, ◌++◌, length, Option, Some, Result}
 use Rattle.std.specs.Prelude.{Ok, Err}
 use Rattle.std.specs.Io.KnownBytes.{Consumes}
 use Rattle.std.specs.Str.Lines.{lines}
@@ -29,6 +29,10 @@ TakesBefore remained remains Write before after = ⊥
 -- the last byte is a line feed (10), so that no line was cut; no bytes do not end with one
 abbrev pub EndsWithFeed : List ℕ → Type 0
 EndsWithFeed bytes = (before : List ℕ) × (bytes ≡ before ++ 10 ∷ [])
+
+-- the same, computed: the byte before the end is a line feed
+abbrev pub ends_with_feed : List ℕ → Bool
+ends_with_feed bytes = get_or bytes (length bytes - 1) 0 == 10
 
 -- a whole list is wanted, and this one, whose lines were all taken, does not end with a line feed
 abbrev pub IsCut : Option (List ℕ) → ReadLists → ReadLists → Type 0

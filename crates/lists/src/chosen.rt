@@ -1,8 +1,12 @@
 //! Which strings of JSON documents are taken.
-ghost use Rattle.std.specs.Prelude.{◌≡◌, map};
+ghost use Rattle.std.specs.Prelude.{◌≡◌, map, not};
+ghost use Rattle.std.specs.List.{position};
 ghost use Rattle.std.specs.String.{string_bytes};
-ghost use Rattle.lists.specs.Fields.{is_named};
+ghost use Rattle.serde_json.specs.View.{view};
+ghost use Rattle.lists.specs.Fields.{first_lacking, have_field, is_named};
 
+use crate::fields::has_field;
+use serde_json::Value;
 use std::marker::Model;
 
 /// The names of fields: members of objects of JSON.
@@ -56,6 +60,38 @@ impl<'a> FieldNames<'a> {
         }
         false
     }
+
+    /// Returns the index of the first name of which documents have no member; of no names, 0.
+    pub(crate) fn first_lacking(&self, documents: &[Value]) -> Option<usize>
+        ensures { result ≡ first_lacking self.now (map view documents.now) }
+    {
+        if self.names.is_empty() {
+            return Some(0);
+        }
+        first_without(self.names, documents)
+    }
+}
+
+// Returns the index of the first of these names of which documents have no member.
+fn first_without(names: &[String], documents: &[Value]) -> Option<usize>
+    ensures { result ≡ position
+        (λ name. not (have_field (map view documents.now) (string_bytes name))) names.now }
+{
+    names
+        .iter()
+        .position(|name| !have_field(documents, name.as_str()))
+}
+
+// Returns whether a member with this name is in one of the documents.
+fn have_field(documents: &[Value], name: &str) -> bool
+    ensures { result ≡ have_field (map view documents.now) name.now }
+{
+    for document in documents {
+        if has_field(name, document) {
+            return true;
+        }
+    }
+    false
 }
 
 /// Which strings of JSON documents are taken, and which of them are refused if they are no entry.

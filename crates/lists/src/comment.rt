@@ -5,7 +5,7 @@ ghost use Rattle.lists.specs.Lines.{before_comment, comment_text};
 use crate::cutting::before;
 use crate::trimming::{Blank, ByteKind, front_len, trim};
 
-/// Returns what stands before the first `#` or `;` of a line, or the whole line if it has neither.
+/// Returns what comes before the first `#` or `;` of a line, or the whole line if it has neither.
 ///
 /// ```
 /// assert_eq!(rt; lists::without_comment(b"10.0.0.0/8 # private"), b"10.0.0.0/8 ".as_slice());

@@ -42,12 +42,13 @@ pub enum Entry {
 /// ```
 #[derive(Clone, Copy, Debug, PartialEq, Eq)]
 pub enum EntryFault {
-    /// The entry is no range and has two or more slashes.
+    /// The entry is no range and has two or more slashes; or the line is none of the form in which
+    /// the list is read (`LineForm`).
     Format,
-    /// What stands before the slash, or the whole entry if it has none, is not an address; or an
+    /// What comes before the slash, or the whole entry if it has none, is not an address; or an
     /// end of a range is not an address.
     Address,
-    /// What stands after the slash is not a suffix of the address's family: a prefix length, or for
+    /// What comes after the slash is not a suffix of the address's family: a prefix length, or for
     /// IPv4 a mask.
     Prefix,
     /// The ends of a range are of two families, or the last is before the first.
@@ -58,7 +59,7 @@ pub enum EntryFault {
     Second,
     /// The network has host bits, and such entries are refused (`Rules`).
     HostBits,
-    /// What stands after the address 0.0.0.0 is a mask and a wildcard: `0.0.0.0 255.255.255.255`
+    /// What comes after the address 0.0.0.0 is a mask and a wildcard: `0.0.0.0 255.255.255.255`
     /// may be one address or all of them.
     Mask,
 }
@@ -89,14 +90,14 @@ impl EntryFault {
 /// Reads a line, which is given without its line end. Returns `None` if it has nothing but blanks
 /// and a comment.
 ///
-/// The entry is what stands before the first `#` or `;`, without the blanks (spaces and tabs)
-/// around it. An entry that contains a `-` is a range: what stands before the first `-` and what
-/// stands after it, without the blanks around each, are its first and its last address. Any other
+/// The entry is what comes before the first `#` or `;`, without the blanks (spaces and tabs)
+/// around it. An entry that contains a `-` is a range: what comes before the first `-` and what
+/// is after it, without the blanks around each, are its first and its last address. Any other
 /// entry is the text of a network, as `IpNetwork::read_bytes` reads it. All other bytes belong to
 /// the entry.
 ///
 /// An error is returned if the entry names no addresses, or if an entry follows it in the comment:
-/// what stands behind the first `#` or `;`, more of them and blanks, up to the next of them, is an
+/// what comes after the first `#` or `;`, more of them and blanks, up to the next of them, is an
 /// entry by itself. A comment without an entry before it may have one.
 ///
 /// ```
@@ -151,7 +152,7 @@ pub(crate) fn read_text(text: &[u8]) -> Result<Entry, EntryFault>
 
 /// Returns the fault that is reported about a text: its encoding, if it has one, and else the
 /// cause.
-fn told_cause(encoding: Option<Encoding>, cause: EntryFault) -> EntryFault
+pub(crate) fn told_cause(encoding: Option<Encoding>, cause: EntryFault) -> EntryFault
     ensures { result ≡ told_cause encoding cause }
 {
     match encoding {

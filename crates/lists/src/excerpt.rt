@@ -12,6 +12,7 @@ const EXCERPT_MAX: usize = 64;
 pub struct Excerpt {
     bytes: [u8; EXCERPT_MAX],
     len: usize,
+    is_string: bool,
 }
 
 impl Excerpt {
@@ -24,6 +25,7 @@ impl Excerpt {
         Excerpt {
             bytes: [0; EXCERPT_MAX],
             len: 0,
+            is_string: false,
         }
     }
 
@@ -39,6 +41,19 @@ impl Excerpt {
         excerpt.bytes[..count].copy_from_slice(&text[..count]);
         excerpt.len = text.len();
         excerpt
+    }
+
+    // Returns the excerpt of a string of a document.
+    pub(crate) fn of_string(text: &[u8]) -> Excerpt {
+        Excerpt {
+            is_string: true,
+            ..Excerpt::of(text)
+        }
+    }
+
+    // Returns whether the text is a string of a document.
+    pub(crate) fn is_string(&self) -> bool {
+        self.is_string
     }
 
     /// Returns the bytes.

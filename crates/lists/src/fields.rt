@@ -9,41 +9,41 @@ use crate::chosen::FieldNames;
 use crate::list_reader::ListReader;
 use serde_json::{Map, Value};
 
-/// Returns whether a member with one of the names stands in a value, at any depth.
+/// Returns whether a member with this name is in a value, at any depth.
 #[cycle(has_field)]
-pub(crate) fn has_field(names: &FieldNames<'_>, value: &Value) -> bool
-    ensures { result ≡ has_field names.now (view value.now) }
+pub(crate) fn has_field(name: &str, value: &Value) -> bool
+    ensures { result ≡ has_field name.now (view value.now) }
 {
     match value {
         Value::Null => false,
         Value::Bool(_) => false,
         Value::Number(_) => false,
         Value::String(_) => false,
-        Value::Array(items) => items_have_field(names, items),
-        Value::Object(members) => members_have_field(names, members),
+        Value::Array(items) => items_have_field(name, items),
+        Value::Object(members) => members_have_field(name, members),
     }
 }
 
-// Returns whether such a member stands in an element of an array.
+// Returns whether such a member is in an element of an array.
 #[cycle(has_field)]
-fn items_have_field(names: &FieldNames<'_>, items: &Vec<Value>) -> bool
-    ensures { result ≡ items_have_field names.now (items_view items.now.items) }
+fn items_have_field(name: &str, items: &Vec<Value>) -> bool
+    ensures { result ≡ items_have_field name.now (items_view items.now.items) }
 {
     for item in items {
-        if has_field(names, item) {
+        if has_field(name, item) {
             return true;
         }
     }
     false
 }
 
-// Returns whether such a member stands in an object.
+// Returns whether such a member is in an object.
 #[cycle(has_field)]
-fn members_have_field(names: &FieldNames<'_>, members: &Map<String, Value>) -> bool
-    ensures { result ≡ members_have_field names.now (members_view members.now.entries) }
+fn members_have_field(name: &str, members: &Map<String, Value>) -> bool
+    ensures { result ≡ members_have_field name.now (members_view members.now.entries) }
 {
     for (key, member) in members.iter() {
-        if names.has(key.as_str()) || has_field(names, member) {
+        if name == key.as_str() || has_field(name, member) {
             return true;
         }
     }

@@ -1,7 +1,9 @@
 //! What would do in place of a refused text.
 use crate::cutting::{after, before};
 use crate::entry::EntryFault;
+use crate::excerpt::Excerpt;
 use crate::fault::LineFault;
+use crate::masks::read_with_masks;
 use crate::trimming::{Blank, trim};
 use ipnetwork::{IpAddr, IpNetwork, Ipv4Addr};
 
@@ -30,6 +32,24 @@ pub fn meant(fault: LineFault, text: &[u8]) -> Option<IpNetwork> {
         },
         _ => None,
     }
+}
+
+/// Returns whether a refused text would be taken with masks (`Rules::takes_masks`). It is for
+/// messages, so no clause says when. Strings of documents and texts that are cut are no such texts.
+///
+/// ```
+/// use lists::{EntryFault, Excerpt, LineFault, would_take_masks};
+///
+/// let fault = LineFault::Entry(EntryFault::Address);
+/// assert!(rt; would_take_masks(fault, &Excerpt::of(b"10.0.0.0 0.0.0.255 # office")));
+/// assert!(rt; !would_take_masks(fault, &Excerpt::of(b"10.0.0.0 10.0.0.255")));
+/// assert!(rt; !would_take_masks(fault, &Excerpt::empty()));
+/// ```
+pub fn would_take_masks(fault: LineFault, text: &Excerpt) -> bool {
+    if fault != LineFault::Entry(EntryFault::Address) || text.is_string() || text.is_cut() {
+        return false;
+    }
+    matches!(read_with_masks(text.bytes()), Ok(Some(_)))
 }
 
 // Returns the network that a text names, without its host bits.

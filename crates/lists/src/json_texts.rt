@@ -14,7 +14,7 @@ use std::alloc::Global;
 // Why the lines of a text are not read as documents.
 #[derive(Clone, Copy, Debug, PartialEq, Eq)]
 pub(crate) enum LinesFault {
-    /// They are not documents, or none is; the number is the line to tell.
+    /// They are not documents, or none is; the number is the line to report.
     NotJson(u64),
     /// Memory ran out.
     OutOfMemory,
@@ -63,7 +63,7 @@ fn alone(alloc: Global, document: Value) -> Result<Vec<Value>, ReadFault>
 
 // Reads the lines of a text that are not blank as documents, of which there has to be one.
 //
-// The line to tell is `whole`, that of the fault of the whole text, unless an earlier line is a
+// The line to report is `whole`, that of the fault of the whole text, unless an earlier line is a
 // document.
 fn documents_of_lines(alloc: Global, text: &str, whole: u64) -> Result<Vec<Value>, LinesFault>
     ensures ok { IfOk result
@@ -91,7 +91,7 @@ fn documents_of_lines(alloc: Global, text: &str, whole: u64) -> Result<Vec<Value
     Ok(documents)
 }
 
-// Reads a line as a document, unless it is blank. `told` is the line to tell if it is none.
+// Reads a line as a document, unless it is blank. `told` is the line to report if it is none.
 fn document_of_line(alloc: Global, line: &str, told: u64) -> Result<Option<Value>, LinesFault>
     ensures ok { IfOk result (λ found. document_of_line line.now ≡ Some (documents_in found)) }
     ensures err { IfErr result (FailsLine line.now) }

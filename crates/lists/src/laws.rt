@@ -1,7 +1,8 @@
-//! The law of entries. The function's contract is the law: the function does nothing, and a proof
-//! that calls it may use the law.
-ghost use Rattle.lists.specs.Laws.{NetworkTextsAreEntries};
+//! The laws of entries and of lines. Each function's contract is a law: the function does nothing,
+//! and a proof that calls it may use the law.
+ghost use Rattle.lists.specs.Laws.{NetworkTextsAreEntries, PrintedLinesAreRead};
 
+use ipnetwork::laws as network_laws;
 use ipnetwork_addr::laws as address_laws;
 
 /// A line that is exactly the text of a network names that network: no such text contains a `-`, a
@@ -13,4 +14,13 @@ pub fn network_texts_are_entries()
     address_laws::v6_text_bytes();
     address_laws::v4_text_is_computed();
     address_laws::v6_text_is_computed();
+}
+
+/// A line that is printed for a network in the form of another program (`LineForm`) is read as that
+/// network.
+pub fn printed_lines_are_read()
+    ensures { PrintedLinesAreRead }
+{
+    network_laws::canonical_ip_network_bytes();
+    network_laws::canonical_ip_network_names_it();
 }

@@ -8,9 +8,10 @@ ghost use Rattle.lists.specs.Added.{AddsNetwork, AddsRange, AddsEntry};
 ghost use Rattle.lists.specs.Private.Taking.{IsGoodEntry};
 
 use crate::entry::{Entry, EntryFault, read_text};
+use crate::excerpt::Excerpt;
 use crate::fault::LineFault;
+use crate::forms::read_entry_by;
 use crate::looks::looks_like_entry;
-use crate::masks::read_entry_by;
 use crate::networks::Networks;
 use crate::read::LINE_MAX;
 use crate::refusals::{Refusal, Refusals};
@@ -35,6 +36,7 @@ use std::marker::Model;
 /// ```
 #[derive(Debug, Drop)]
 pub struct ListReader {
+    alloc: Global,
     v4: Networks<Ipv4Network>,
     v6: Networks<Ipv6Network>,
     rules: Rules,
@@ -74,6 +76,7 @@ impl ListReader {
         ensures { result ≡ nothing_read rules refusals }
     {
         ListReader {
+            alloc,
             v4: Networks::new(alloc),
             v6: Networks::new(alloc),
             rules,
@@ -144,7 +147,7 @@ impl ListReader {
         match read_entry_by(self.rules, line) {
             Ok(None) => {}
             Ok(Some(entry)) => self.take_allowed(entry, line),
-            Err(fault) => self.refuse(LineFault::Entry(fault), line),
+            Err(fault) => self.refuse(LineFault::Entry(fault), Excerpt::of(line)),
         }
     }
 
@@ -156,7 +159,7 @@ impl ListReader {
             return;
         }
         self.next_line();
-        self.refuse(LineFault::Length, &[]);
+        self.refuse(LineFault::Length, Excerpt::empty());
     }
 
     /// Takes a string of a document, unless memory has run out. A string that names no entry is
@@ -191,7 +194,7 @@ impl ListReader {
         ensures { self.new ≡ passing is_strict self.old text.now fault }
     {
         if is_strict || looks_like_entry(text) {
-            self.refuse(fault, text);
+            self.refuse(fault, Excerpt::of_string(text));
         }
     }
 
@@ -202,8 +205,8 @@ impl ListReader {
         self.line = self.line.saturating_add(1);
     }
 
-    // Notes that the current line, which has this text, is refused.
-    fn refuse(&mut self, fault: LineFault, text: &[u8])
+    // Notes that the current line, whose text begins so, is refused.
+    fn refuse(&mut self, fault: LineFault, text: Excerpt)
         ensures { self.new ≡ refusing self.old fault }
     {
         let refusal = Refusal {
@@ -211,7 +214,7 @@ impl ListReader {
             line: self.line,
             fault,
         };
-        self.refusals.add(refusal, text);
+        self.refusals.add(self.alloc, refusal, text);
     }
 
     // Takes the entry of a text, unless it is refused for its host bits.
@@ -220,7 +223,7 @@ impl ListReader {
         ensures { TakesAllowed self.old entry self.new }
     {
         if self.rules.refuses(&entry) {
-            self.refuse(LineFault::Entry(EntryFault::HostBits), text);
+            self.refuse(LineFault::Entry(EntryFault::HostBits), Excerpt::of(text));
         } else {
             self.take(entry);
         }

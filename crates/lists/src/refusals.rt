@@ -4,6 +4,7 @@ ghost use Rattle.lists.specs.Refusals.{no_refusals, with_refusal};
 
 use crate::excerpt::Excerpt;
 use crate::fault::LineFault;
+use std::alloc::Global;
 use std::marker::Model;
 
 /// The most refused lines that are kept.
@@ -49,7 +50,9 @@ pub struct Refusal {
 #[derive(Debug, Drop)]
 pub struct Refusals {
     slots: [Refusal; REFUSALS_MAX],
-    texts: [Excerpt; REFUSALS_MAX],
+    // The texts of those of them for which there was memory, from the first on. Taken up only when
+    // a line is refused, since this value is moved, and the texts would need much of the stack.
+    texts: Option<Vec<Excerpt>>,
     count: usize,
     more: u64,
 }
@@ -85,19 +88,20 @@ impl Refusals {
     {
         Refusals {
             slots: [UNUSED; REFUSALS_MAX],
-            texts: [Excerpt::empty(); REFUSALS_MAX],
+            texts: None,
             count: 0,
             more: 0,
         }
     }
 
-    /// Adds a refused line, which has this text.
-    pub(crate) fn add(&mut self, refusal: Refusal, text: &[u8])
+    /// Adds a refused line, whose text begins so. If there is no memory for the text, the line is
+    /// kept without it, and so are the lines after it.
+    pub(crate) fn add(&mut self, alloc: Global, refusal: Refusal, text: Excerpt)
         ensures { self.new ≡ with_refusal self.old refusal }
     {
         if self.count < REFUSALS_MAX {
             self.slots[self.count] = refusal;
-            self.texts[self.count] = Excerpt::of(text);
+            keep_text(alloc, &mut self.texts, self.count, text);
             self.count += 1;
         } else {
             self.more = self.more.saturating_add(1);
@@ -120,7 +124,8 @@ impl Refusals {
     }
 
     /// Returns the beginning of the text of the refused line at this index of `kept`, which is
-    /// empty if the line was too long. It is for messages, so no clause says what it is.
+    /// empty if the line was too long or there was no memory for the text. It is for messages, so
+    /// no clause says what it is.
     ///
     /// ```
     /// let mut lists = ListReader::new(rt.alloc(), Rules::lenient(), Refusals::new());
@@ -129,10 +134,9 @@ impl Refusals {
     /// assert_eq!(rt; refusals.excerpt(0).bytes(), b"10/8 # x".as_slice());
     /// ```
     pub fn excerpt(&self, index: usize) -> Excerpt {
-        if index < self.count {
-            self.texts[index]
-        } else {
-            Excerpt::empty()
+        match &self.texts {
+            Some(texts) if index < texts.len() => texts[index],
+            _ => Excerpt::empty(),
         }
     }
 
@@ -164,5 +168,14 @@ impl Refusals {
         ensures { result ≡ (length self.now.kept == 0) }
     {
         self.kept().is_empty()
+    }
+}
+
+// Adds the beginning of a text to those of the `count` refused lines before it, unless one of them
+// is missing or there is no memory.
+fn keep_text(alloc: Global, texts: &mut Option<Vec<Excerpt>>, count: usize, text: Excerpt) {
+    let kept = texts.get_or_insert_with(|| Vec::new(alloc));
+    if kept.len() == count {
+        let _ = kept.push(text);
     }
 }

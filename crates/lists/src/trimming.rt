@@ -6,7 +6,7 @@ ghost use Rattle.lists.specs.Lines.{trimmed_by};
 /// A kind of bytes: some of the 256.
 ///
 /// ```
-/// // The text behind the bytes of a kind.
+/// // The text after the bytes of a kind.
 /// fn behind<K: lists::ByteKind>(text: &[u8]) -> &[u8] {
 ///     &text[lists::front_len::<K>(text)..]
 /// }

@@ -1,7 +1,7 @@
 -- What is taken of the bytes of a document.
 use Rattle.std.specs.Prelude.{◌≡◌, ◌<◌, ◌⊎◌, ℕ, Bool, true, List, length}
 use Rattle.lists.specs.Encodings.{encoding_of}
-use Rattle.lists.specs.Documents.{AreNoDocuments, LackFields, TakesDocuments}
+use Rattle.lists.specs.Documents.{AreNoDocuments, LackField, TakesDocuments}
 use Rattle.lists.specs.Lists.{ReadLists, at_list}
 use Rattle.lists.specs.declared.chosen.Strings.{Strings}
 use Rattle.lists.specs.declared.bytes.BytesFault.{BytesFault}
@@ -30,8 +30,8 @@ FailsBytes strings number bytes before after (Cut place) = ⊥
 -- the bytes are none, and nothing changes
 FailsBytes strings number bytes before after (NotJson place line encoding) = (place ≡ number) × AreNoDocuments bytes
     × (encoding ≡ encoding_of bytes) × (after ≡ before)
--- they have none of the fields, and nothing changes
-FailsBytes strings number bytes before after (NoField place) = (place ≡ number) × LackFields strings bytes
+-- they lack a field, and nothing changes
+FailsBytes strings number bytes before after (NoField place field) = (place ≡ number) × LackField strings field bytes
     × (after ≡ before)
 -- there was no memory for the documents, and nothing changes; or memory ran out for an entry of them
 FailsBytes strings number bytes before after OutOfMemory = ((0 < length bytes) × (after ≡ before))

@@ -41,7 +41,7 @@ FailsDocuments number bytes (Open place cause) = ⊥
 FailsDocuments number bytes (Read place) = ⊥
 FailsDocuments number bytes (Length place) = ⊥
 FailsDocuments number bytes (Cut place) = ⊥
-FailsDocuments number bytes (NoField place) = ⊥
+FailsDocuments number bytes (NoField place field) = ⊥
 -- the bytes are none, and have this encoding
 FailsDocuments number bytes (NotJson place line encoding) = (place ≡ number) × (IsUtf8 bytes → documents_of bytes ≡ None)
     × (encoding ≡ encoding_of bytes)

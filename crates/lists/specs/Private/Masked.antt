@@ -16,7 +16,7 @@ ReadsMasked text (Ok None) = IsNotMasked text
 ReadsMasked text (Ok (Some entry)) = NamesMasked text entry
 ReadsMasked text (Err fault) = IsUnclear text × (fault ≡ Mask)
 
--- the prefix length that the number behind the address says, if it says one, or the fault that it may say two
+-- the prefix length that the number after the address says, if it says one, or the fault that it may say two
 abbrev pub GivesLength : ℕ → ℕ → Result (Option ℕ) EntryFault → Type 0
 GivesLength address number (Ok None) = ((p : ℕ) → ¬ (SaysLength address number p)) × ¬ (IsBoth number)
 GivesLength address number (Ok (Some p)) = SaysLength address number p

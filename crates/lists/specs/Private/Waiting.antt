@@ -24,12 +24,12 @@ pub record TakesWhole (held : Buffered) (before after : ReadLists) (pending : Li
   pub some : TakesSome held before after pending
   pub idle : HasNoLine held.ended held some.now
 
--- the Boolean tells whether nothing is pending
+-- the Boolean says whether nothing is pending
 abbrev pub TellsNone : Bool → List ℕ → Type 0
 TellsNone true pending = pending ≡ []
 TellsNone false pending = pending ≢ []
 
--- the Boolean tells whether the input ends with a line feed, unless memory ran out (`out`), where it may be `true`
+-- the Boolean says whether the input ends with a line feed, unless memory ran out (`out`), where it may be `true`
 abbrev pub TellsEnd : Bool → Bool → List ℕ → Type 0
 TellsEnd true out input = out ≡ false → EndsWithFeed input
 TellsEnd false out input = ¬ (EndsWithFeed input)

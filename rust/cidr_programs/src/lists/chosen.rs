@@ -3,6 +3,8 @@
 //! Which strings of JSON documents are taken.
 
 use fosibegan_core::plain_std::string::String;
+use crate::lists::fields::has_field;
+use fosibegan_core::plain_std::json::Value;
 
 /// The names of fields: members of objects of JSON.
 ///
@@ -50,6 +52,31 @@ impl<'a> FieldNames<'a> {
         }
         false
     }
+
+    /// Returns the index of the first name of which documents have no member; of no names, 0.
+    pub(crate) fn first_lacking(&self, documents: &[Value]) -> Option<usize> {
+        if self.names.is_empty() {
+            return Some(0);
+        }
+        first_without(self.names, documents)
+    }
+}
+
+// Returns the index of the first of these names of which documents have no member.
+fn first_without(names: &[String], documents: &[Value]) -> Option<usize> {
+    names
+        .iter()
+        .position(|name| !have_field(documents, name.as_str()))
+}
+
+// Returns whether a member with this name is in one of the documents.
+fn have_field(documents: &[Value], name: &str) -> bool {
+    for document in documents {
+        if has_field(name, document) {
+            return true;
+        }
+    }
+    false
 }
 
 /// Which strings of JSON documents are taken, and which of them are refused if they are no entry.

@@ -5,7 +5,7 @@
 use crate::lists::cutting::before;
 use crate::lists::trimming::{Blank, ByteKind, front_len, trim};
 
-/// Returns what stands before the first `#` or `;` of a line, or the whole line if it has neither.
+/// Returns what comes before the first `#` or `;` of a line, or the whole line if it has neither.
 ///
 /// ```
 /// # use cidr_programs::in_examples::*;

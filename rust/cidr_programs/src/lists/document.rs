@@ -4,7 +4,7 @@
 
 use crate::lists::bytes::{BytesFault, read_bytes};
 use crate::lists::chosen::Strings;
-use crate::lists::fields::{has_field, take_fields};
+use crate::lists::fields::take_fields;
 use crate::lists::json_texts::documents_of;
 use crate::lists::list_reader::ListReader;
 use crate::lists::named::ReadFault;
@@ -28,7 +28,7 @@ pub const DOCUMENT_MAX: usize = 1_073_741_824;
 /// documents, one after another (JSON Lines).
 ///
 /// Each string that is taken and is the text of a network or of a range is an entry. A string may
-/// stand at any depth, as an element of an array or as a value of an object; keys are no strings.
+/// are at any depth, as an element of an array or as a value of an object; keys are no strings.
 /// If an object has a key more than once, the last value counts. `strings` says which are taken:
 ///
 /// - `LookingLikeEntries` or `All`: all. Any other string is refused if it looks like an entry
@@ -42,7 +42,7 @@ pub const DOCUMENT_MAX: usize = 1_073_741_824;
 ///
 /// An error is returned if the document cannot be opened, a read fails, it has more than
 /// 1,073,741,824 bytes, it is not JSON in UTF-8 or has more than 127 levels, no member has one of
-/// the names, or memory runs out. The reader is then unchanged, unless memory ran out for an entry.
+/// the names of fields, or memory runs out. The reader is then unchanged, unless memory ran out for an entry.
 ///
 /// ```
 /// # use cidr_programs::in_examples::*;
@@ -71,7 +71,7 @@ pub fn read_document<L: OpenLists>(
 }
 
 // Takes the strings of the documents that these bytes are. Nothing changes if they are none, or no
-// member has one of the names.
+// member has one of the names of fields.
 fn take_bytes(
     alloc: Global,
     bytes: &[u8],
@@ -83,8 +83,8 @@ fn take_bytes(
         Ok(documents) => documents,
         Err(fault) => return Err(fault),
     };
-    if !has_fields(strings, documents.as_slice()) {
-        return Err(ReadFault::NoField(place));
+    if let Some(field) = lacking(strings, documents.as_slice()) {
+        return Err(ReadFault::NoField(place, field));
     }
     reader.begin(place);
     take_documents(reader, documents.as_slice(), strings);
@@ -94,17 +94,12 @@ fn take_bytes(
     Ok(())
 }
 
-// Returns whether documents have a field of which strings are taken.
-fn has_fields(strings: &Strings<'_>, documents: &[Value]) -> bool {
-    let Strings::OfFields(names) = strings else {
-        return true;
-    };
-    for document in documents {
-        if has_field(names, document) {
-            return true;
-        }
+// Returns the index of the first name of which documents have no field, if only fields are taken.
+fn lacking(strings: &Strings<'_>, documents: &[Value]) -> Option<usize> {
+    match strings {
+        Strings::OfFields(names) => names.first_lacking(documents),
+        Strings::LookingLikeEntries | Strings::All => None,
     }
-    false
 }
 
 // Takes the strings of documents, one after another.

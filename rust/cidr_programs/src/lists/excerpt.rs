@@ -15,6 +15,7 @@ const EXCERPT_MAX: usize = 64;
 pub struct Excerpt {
     bytes: [u8; EXCERPT_MAX],
     len: usize,
+    is_string: bool,
 }
 
 impl Excerpt {
@@ -28,6 +29,7 @@ impl Excerpt {
         Excerpt {
             bytes: [0; EXCERPT_MAX],
             len: 0,
+            is_string: false,
         }
     }
 
@@ -47,6 +49,19 @@ impl Excerpt {
         excerpt.bytes[..count].copy_from_slice(&text[..count]);
         excerpt.len = text.len();
         excerpt
+    }
+
+    // Returns the excerpt of a string of a document.
+    pub(crate) fn of_string(text: &[u8]) -> Excerpt {
+        Excerpt {
+            is_string: true,
+            ..Excerpt::of(text)
+        }
+    }
+
+    // Returns whether the text is a string of a document.
+    pub(crate) fn is_string(&self) -> bool {
+        self.is_string
     }
 
     /// Returns the bytes.

@@ -7,32 +7,32 @@ use crate::lists::chosen::FieldNames;
 use crate::lists::list_reader::ListReader;
 use fosibegan_core::plain_std::json::{Map, Value};
 
-/// Returns whether a member with one of the names stands in a value, at any depth.
-pub(crate) fn has_field(names: &FieldNames<'_>, value: &Value) -> bool {
+/// Returns whether a member with this name is in a value, at any depth.
+pub(crate) fn has_field(name: &str, value: &Value) -> bool {
     match value {
         Value::Null => false,
         Value::Bool(_) => false,
         Value::Number(_) => false,
         Value::String(_) => false,
-        Value::Array(items) => items_have_field(names, items),
-        Value::Object(members) => members_have_field(names, members),
+        Value::Array(items) => items_have_field(name, items),
+        Value::Object(members) => members_have_field(name, members),
     }
 }
 
-// Returns whether such a member stands in an element of an array.
-fn items_have_field(names: &FieldNames<'_>, items: &[Value]) -> bool {
+// Returns whether such a member is in an element of an array.
+fn items_have_field(name: &str, items: &[Value]) -> bool {
     for item in items {
-        if has_field(names, item) {
+        if has_field(name, item) {
             return true;
         }
     }
     false
 }
 
-// Returns whether such a member stands in an object.
-fn members_have_field(names: &FieldNames<'_>, members: &Map<String, Value>) -> bool {
+// Returns whether such a member is in an object.
+fn members_have_field(name: &str, members: &Map<String, Value>) -> bool {
     for (key, member) in members.iter() {
-        if names.has(key.as_str()) || has_field(names, member) {
+        if name == key.as_str() || has_field(name, member) {
             return true;
         }
     }

@@ -4,7 +4,9 @@
 
 use crate::lists::cutting::{after, before};
 use crate::lists::entry::EntryFault;
+use crate::lists::excerpt::Excerpt;
 use crate::lists::fault::LineFault;
+use crate::lists::masks::read_with_masks;
 use crate::lists::trimming::{Blank, trim};
 use fosibegan_core::ipnetwork::{IpAddr, IpNetwork, Ipv4Addr};
 
@@ -37,6 +39,25 @@ pub fn meant(fault: LineFault, text: &[u8]) -> Option<IpNetwork> {
         },
         _ => None,
     }
+}
+
+/// Returns whether a refused text would be taken with masks (`Rules::takes_masks`). It is for
+/// messages, so no clause says when. Strings of documents and texts that are cut are no such texts.
+///
+/// ```
+/// # use cidr_programs::in_examples::*;
+/// use cidr_programs::lists::{EntryFault, Excerpt, LineFault, would_take_masks};
+///
+/// let fault = LineFault::Entry(EntryFault::Address);
+/// assert!(would_take_masks(fault, &Excerpt::of(b"10.0.0.0 0.0.0.255 # office")));
+/// assert!(!would_take_masks(fault, &Excerpt::of(b"10.0.0.0 10.0.0.255")));
+/// assert!(!would_take_masks(fault, &Excerpt::empty()));
+/// ```
+pub fn would_take_masks(fault: LineFault, text: &Excerpt) -> bool {
+    if fault != LineFault::Entry(EntryFault::Address) || text.is_string() || text.is_cut() {
+        return false;
+    }
+    matches!(read_with_masks(text.bytes()), Ok(Some(_)))
 }
 
 // Returns the network that a text names, without its host bits.

@@ -11,7 +11,7 @@ use fosibegan_core::plain_std::alloc::Global;
 // Why the lines of a text are not read as documents.
 #[derive(Clone, Copy, Debug, PartialEq, Eq)]
 pub(crate) enum LinesFault {
-    /// They are not documents, or none is; the number is the line to tell.
+    /// They are not documents, or none is; the number is the line to report.
     NotJson(u64),
     /// Memory ran out.
     OutOfMemory,
@@ -53,7 +53,7 @@ fn alone(alloc: Global, document: Value) -> Result<Vec<Value>, ReadFault> {
 
 // Reads the lines of a text that are not blank as documents, of which there has to be one.
 //
-// The line to tell is `whole`, that of the fault of the whole text, unless an earlier line is a
+// The line to report is `whole`, that of the fault of the whole text, unless an earlier line is a
 // document.
 fn documents_of_lines(alloc: Global, text: &str, whole: u64) -> Result<Vec<Value>, LinesFault> {
     let mut documents = Vec::new(alloc);
@@ -77,7 +77,7 @@ fn documents_of_lines(alloc: Global, text: &str, whole: u64) -> Result<Vec<Value
     Ok(documents)
 }
 
-// Reads a line as a document, unless it is blank. `told` is the line to tell if it is none.
+// Reads a line as a document, unless it is blank. `told` is the line to report if it is none.
 fn document_of_line(alloc: Global, line: &str, told: u64) -> Result<Option<Value>, LinesFault> {
     if is_blank(line.as_bytes()) {
         return Ok(None);

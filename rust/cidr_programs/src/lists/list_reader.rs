@@ -4,9 +4,10 @@
 
 use fosibegan_core::plain_std::vec::Vec;
 use crate::lists::entry::{Entry, EntryFault, read_text};
+use crate::lists::excerpt::Excerpt;
 use crate::lists::fault::LineFault;
+use crate::lists::forms::read_entry_by;
 use crate::lists::looks::looks_like_entry;
-use crate::lists::masks::read_entry_by;
 use crate::lists::networks::Networks;
 use crate::lists::read::LINE_MAX;
 use crate::lists::refusals::{Refusal, Refusals};
@@ -34,6 +35,7 @@ use fosibegan_core::plain_std::alloc::{AllocError, Global};
 /// ```
 #[derive(Debug)]
 pub struct ListReader {
+    alloc: Global,
     v4: Networks<Ipv4Network>,
     v6: Networks<Ipv6Network>,
     rules: Rules,
@@ -55,6 +57,7 @@ impl ListReader {
     /// ```
     pub fn new(alloc: Global, rules: Rules, refusals: Refusals) -> ListReader {
         ListReader {
+            alloc,
             v4: Networks::new(alloc),
             v6: Networks::new(alloc),
             rules,
@@ -121,7 +124,7 @@ impl ListReader {
         match read_entry_by(self.rules, line) {
             Ok(None) => {}
             Ok(Some(entry)) => self.take_allowed(entry, line),
-            Err(fault) => self.refuse(LineFault::Entry(fault), line),
+            Err(fault) => self.refuse(LineFault::Entry(fault), Excerpt::of(line)),
         }
     }
 
@@ -131,7 +134,7 @@ impl ListReader {
             return;
         }
         self.next_line();
-        self.refuse(LineFault::Length, &[]);
+        self.refuse(LineFault::Length, Excerpt::empty());
     }
 
     /// Takes a string of a document, unless memory has run out. A string that names no entry is
@@ -159,7 +162,7 @@ impl ListReader {
     // Refuses a string if the reading is strict or it looks like an entry.
     fn pass(&mut self, fault: LineFault, text: &[u8], is_strict: bool) {
         if is_strict || looks_like_entry(text) {
-            self.refuse(fault, text);
+            self.refuse(fault, Excerpt::of_string(text));
         }
     }
 
@@ -168,20 +171,20 @@ impl ListReader {
         self.line = self.line.saturating_add(1);
     }
 
-    // Notes that the current line, which has this text, is refused.
-    fn refuse(&mut self, fault: LineFault, text: &[u8]) {
+    // Notes that the current line, whose text begins so, is refused.
+    fn refuse(&mut self, fault: LineFault, text: Excerpt) {
         let refusal = Refusal {
             list: self.list,
             line: self.line,
             fault,
         };
-        self.refusals.add(refusal, text);
+        self.refusals.add(self.alloc, refusal, text);
     }
 
     // Takes the entry of a text, unless it is refused for its host bits.
     fn take_allowed(&mut self, entry: Entry, text: &[u8]) {
         if self.rules.refuses(&entry) {
-            self.refuse(LineFault::Entry(EntryFault::HostBits), text);
+            self.refuse(LineFault::Entry(EntryFault::HostBits), Excerpt::of(text));
         } else {
             self.take(entry);
         }

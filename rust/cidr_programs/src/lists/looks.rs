@@ -3,25 +3,52 @@
 //! Texts that look like an entry.
 
 use crate::lists::cutting::{after, before};
-use crate::lists::trimming::{Blank, trim};
+use crate::lists::trimming::{Blank, ByteKind, front_len, trim};
 
-/// Returns whether a text looks like an entry, so that it is a mistake if it names none: before a
-/// `/` it is four numbers joined by dots, or hex digits, `.` and `:` with a `::`; or both sides of
-/// a `-` are such texts. A time, a date and a version of three numbers do not look so.
+/// Returns whether a text looks like an entry, so that it is a mistake if it names none.
+///
+/// Before a `/` it is four numbers joined by dots, or hex digits, `.` and `:` with a `::` or with as
+/// many `:` as an IPv6 address that is spelled in full; or both sides of a `-` are such texts. A
+/// time, a date and a version of three numbers do not look so.
+///
+/// What separates entries is passed over at both ends: blanks, ends of lines and all else that is
+/// not visible ASCII, as U+00A0 or a byte order mark, and commas and semicolons. A text looks like an
+/// entry too if what comes before its first separator does, and all bytes from there on are
+/// separators or may be in entries. So two addresses do, and a sentence does not.
 ///
 /// ```
 /// # use cidr_programs::in_examples::*;
 /// assert!(cidr_programs::lists::looks_like_entry(b"300.1.1.1") && cidr_programs::lists::looks_like_entry(b"fe80::/129"));
+/// assert!(cidr_programs::lists::looks_like_entry(b"10.0.0.1\n") && cidr_programs::lists::looks_like_entry(b"10.0.0.1,10.0.0.2"));
 /// assert!(!cidr_programs::lists::looks_like_entry(b"12:34:56") && !cidr_programs::lists::looks_like_entry(b"1.2.3"));
+/// assert!(!cidr_programs::lists::looks_like_entry(b"10.0.0.1 is down"));
 /// ```
 pub fn looks_like_entry(text: &[u8]) -> bool {
+    looks_like_any(trim::<Separator>(text))
+}
+
+// Whether a text looks like an entry or like entries.
+fn looks_like_any(text: &[u8]) -> bool {
+    if looks_like_one(text) {
+        return true;
+    }
+    looks_like_some(text)
+}
+
+// Whether the first part of a text looks like an entry, and no other byte is in the others.
+fn looks_like_some(text: &[u8]) -> bool {
+    looks_like_one(first_part(text)) && are_entry_bytes(other_parts(text))
+}
+
+// Whether a text looks like a network, or both sides of its first `-` do.
+fn looks_like_one(text: &[u8]) -> bool {
     if looks_like_network(text) {
         return true;
     }
     looks_like_network(before(text, b'-')) && looks_like_network(after(text, b'-'))
 }
 
-// Whether what stands before the first `/` of a text looks like an address.
+// Whether what comes before the first `/` of a text looks like an address.
 fn looks_like_network(text: &[u8]) -> bool {
     looks_like_address(before(trim::<Blank>(text), b'/'))
 }
@@ -31,7 +58,7 @@ fn looks_like_address(text: &[u8]) -> bool {
     if are_four_numbers(text) {
         return true;
     }
-    are_address_bytes(text) && has_gap(text)
+    are_address_bytes(text) && (has_gap(text) || has_all_groups(text))
 }
 
 // Whether a text is four numbers joined by dots.
@@ -96,5 +123,70 @@ fn begins_colon(text: &[u8]) -> bool {
     match text.first() {
         Some(byte) => *byte == b':',
         None => false,
+    }
+}
+
+// Whether a text has the separators of an IPv6 address that is spelled in full.
+fn has_all_groups(text: &[u8]) -> bool {
+    let colons = count_of(text, b':');
+    colons == 7 || (colons == 6 && count_of(text, b'.') == 3)
+}
+
+// Returns how often a byte is in a text.
+fn count_of(text: &[u8], byte: u8) -> usize {
+    let mut count = 0;
+    for other in text {
+        if *other == byte {
+            count += 1;
+        }
+    }
+    count
+}
+
+// Returns what comes before the first separator of a text.
+fn first_part(text: &[u8]) -> &[u8] {
+    &text[..front_len::<Joined>(text)]
+}
+
+// Returns what comes from the first separator of a text on.
+fn other_parts(text: &[u8]) -> &[u8] {
+    &text[front_len::<Joined>(text)..]
+}
+
+// Whether each byte may be in entries or separates them.
+fn are_entry_bytes(text: &[u8]) -> bool {
+    for byte in text {
+        if !is_entry_byte(*byte) {
+            return false;
+        }
+    }
+    true
+}
+
+// Whether a byte may be in entries or separates them.
+fn is_entry_byte(byte: u8) -> bool {
+    is_address_byte(byte) || byte == b'/' || byte == b'-' || is_separator(byte)
+}
+
+// Whether a byte separates entries.
+fn is_separator(byte: u8) -> bool {
+    byte < 33 || byte > 126 || byte == b',' || byte == b';'
+}
+
+/// Bytes that separate entries.
+struct Separator;
+
+impl ByteKind for Separator {
+    fn has(byte: u8) -> bool {
+        is_separator(byte)
+    }
+}
+
+/// Bytes between separators.
+struct Joined;
+
+impl ByteKind for Joined {
+    fn has(byte: u8) -> bool {
+        !is_separator(byte)
     }
 }

@@ -4,43 +4,11 @@
 
 use crate::lists::comment::{comment_text, without_comment};
 use crate::lists::entry::{Entry, EntryFault, names_entry, read_entry};
-use crate::lists::rules::Rules;
 use crate::lists::trimming::{Blank, ByteKind, front_len, trim};
 use fosibegan_core::ipnetwork::{IpNetwork, Ipv4Addr, Ipv4Network, ipv4_mask_to_prefix};
 
-/// Reads a line by rules. If they take masks, what `read_entry` reads may also be two words with
-/// blanks between them: an IPv4 address, and its mask or wildcard. That is the network of their
-/// length, which keeps its host bits. Otherwise this is `read_entry`.
-///
-/// 0.0.0.0 and 255.255.255.255 are both a mask and a wildcard. After an address that is not 0.0.0.0
-/// they name that address alone, since it has host bits in the other network; after 0.0.0.0 the
-/// fault is `EntryFault::Mask`.
-///
-/// ```
-/// # use cidr_programs::in_examples::*;
-/// # ended(|| {
-/// use cidr_programs::lists::{Entry, EntryFault, Rules, read_entry_by};
-///
-/// let rules = Rules { takes_masks: true, ..Rules::lenient() };
-/// let entry = Some(Entry::Network("10.0.0.0/8".parse()?));
-/// assert_eq!(read_entry_by(rules, b"10.0.0.0 255.0.0.0"), Ok(entry));
-/// assert_eq!(read_entry_by(rules, b"10.0.0.0 0.255.255.255"), Ok(entry));
-/// assert_eq!(read_entry_by(rules, b"0.0.0.0 0.0.0.0"), Err(EntryFault::Mask));
-/// let fault = Err(EntryFault::Address);
-/// assert_eq!(read_entry_by(Rules::lenient(), b"10.0.0.0 255.0.0.0"), fault);
-/// # Ok(())
-/// # });
-/// ```
-pub fn read_entry_by(rules: Rules, line: &[u8]) -> Result<Option<Entry>, EntryFault> {
-    if rules.takes_masks {
-        read_with_masks(line)
-    } else {
-        read_entry(line)
-    }
-}
-
-// Reads a line whose entry may be of two words.
-fn read_with_masks(line: &[u8]) -> Result<Option<Entry>, EntryFault> {
+/// Reads a line whose entry may be of two words (see `read_entry_by`).
+pub(crate) fn read_with_masks(line: &[u8]) -> Result<Option<Entry>, EntryFault> {
     let text = trim::<Blank>(without_comment(line));
     if text.is_empty() {
         return Ok(None);
@@ -85,6 +53,16 @@ fn read_masked(text: &[u8]) -> Result<Option<Entry>, EntryFault> {
         Ok(None) => Ok(None),
         Err(fault) => Err(fault),
     }
+}
+
+/// Returns the first word of a text.
+pub(crate) fn first_word(text: &[u8]) -> &[u8] {
+    &text[..front_len::<WordByte>(text)]
+}
+
+/// Returns what follows the first word of a text, without the blanks around it.
+pub(crate) fn after_word(text: &[u8]) -> &[u8] {
+    trim::<Blank>(&text[front_len::<WordByte>(text)..])
 }
 
 // Returns the prefix length that the number after an address says, if it says one.

@@ -30,8 +30,9 @@ pub enum ReadFault {
     /// The list that the word at this index names does not end with a line feed, so that it may have
     /// been cut, and such lists are refused (`Rules`).
     Cut(usize),
-    /// No member of the document that the word at this index names has one of the names of fields.
-    NoField(usize),
+    /// The document that the word at this index names has no member of a name of a field, the one at
+    /// the second index among these names.
+    NoField(usize, usize),
     /// Memory ran out.
     OutOfMemory,
 }

@@ -3,6 +3,7 @@
 //! What lists may say, and how.
 
 use crate::lists::entry::Entry;
+use crate::lists::forms::LineForm;
 use fosibegan_core::ipnetwork::IpNetwork;
 
 /// What lists may say, and how.
@@ -29,22 +30,27 @@ pub struct Rules {
     /// Whether an IPv4 address and its mask or wildcard, as two words, are a network:
     /// `10.0.0.0 255.0.0.0`, `10.0.0.0 0.255.255.255`. Strings of documents are not read so.
     pub takes_masks: bool,
+    /// The form of the lines. In one of another program no entry has two words, even if masks are
+    /// taken. Texts are read by it too, and documents are not.
+    pub form: LineForm,
 }
 
 impl Rules {
-    /// Returns the rules by which no entry is refused for its host bits, no list for its end, and
-    /// no entry has two words.
+    /// Returns the rules by which no entry is refused for its host bits, no list for its end, no
+    /// entry has two words, and lines are in no form of another program.
     ///
     /// ```
     /// # use cidr_programs::in_examples::*;
     /// let rules = Rules::lenient();
     /// assert!(!rules.refuses_host_bits && !rules.is_whole && !rules.takes_masks);
+    /// assert_eq!(rules.form, cidr_programs::lists::LineForm::Plain);
     /// ```
     pub fn lenient() -> Rules {
         Rules {
             refuses_host_bits: false,
             is_whole: false,
             takes_masks: false,
+            form: LineForm::Plain,
         }
     }
 

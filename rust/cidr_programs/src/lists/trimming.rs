@@ -6,7 +6,7 @@
 ///
 /// ```
 /// # use cidr_programs::in_examples::*;
-/// // The text behind the bytes of a kind.
+/// // The text after the bytes of a kind.
 /// fn behind<K: cidr_programs::lists::ByteKind>(text: &[u8]) -> &[u8] {
 ///     &text[cidr_programs::lists::front_len::<K>(text)..]
 /// }

@@ -1,4 +1,4 @@
--- The lines of a list, as they are handed out.
+-- The lines of a list, as they are returned.
 use Rattle.lists.proofs.Words.{◌≡◌, ◌∙◌, inl, ℕ, ◌+◌, ◌-◌, ◌^◌, ◌<◌, ◌≤◌, true, false, true≢false, List, [], ◌∷◌, ◌++◌, length, refl, sym, ap, subst, append_assoc, append-nil, length-append, arith, Consumes-trans, Consumes-kept, ltb-true, ltb-false, Consumes, Keeps, IsAtEnd, Option, None, Some, nat_lt, lines, asked, complete_part, Buffered, waits, HasNoFeed, IsPending, AreFirst, IsFirstLine, Gives, Read, InputTooLong, Line, TooLong, Ask, End, LineEnd, next_first, first_still, are_all, has_no, last_line, lines_last, first_are_complete, ReadLists, Takes, TakesLines, TakesSome, HasNoLine, TakesWhole, TakesBefore}
 use Rattle.std.specs.Prelude.{Bool}
 
