@@ -15,11 +15,32 @@ pub shapes : map addresses_of (codes "10.1.1.1:51234" ∷ codes "[10.1.1.1]" ∷
 unfolding address_in behind_word begun_by before_port address_of digits v6_of gap_below
 shapes = refl
 
--- behind a word and a colon; a port may follow
+-- after a word and a colon; a port may follow
 pub behind_words : map addresses_of (codes "outside:10.1.1.1/443" ∷ codes "addr:10.1.1.1" ∷ codes "IP:10.1.1.1:80"
     ∷ codes "ip4:10.1.1.1." ∷ codes "cafe_1:10.1.1.1" ∷ []) ≡ ten ∷ ten ∷ ten ∷ ten ∷ ten ∷ []
 unfolding address_in behind_word begun_by before_port address_of digits v6_of gap_below
 behind_words = refl
+
+-- a mark may follow a port
+pub ports_and_marks : map addresses_of (codes "10.1.1.1:51234: EOF" ∷ codes "10.1.1.1:51234." ∷ codes "10.1.1.1:5:"
+    ∷ codes "client:10.1.1.1:443:" ∷ []) ≡ ten ∷ ten ∷ ten ∷ ten ∷ []
+unfolding address_in behind_word begun_by before_port address_of digits v6_of gap_below
+ports_and_marks = refl
+
+-- two marks, six digits, or no digits
+pub no_ports_and_marks : map addresses_of (codes "10.1.1.1:51234::" ∷ codes "10.1.1.1:51234.:" ∷ codes
+    "10.1.1.1:123456:" ∷ codes "10.1.1.1::" ∷ codes "10.1.1.1:80:443" ∷ codes "12:34:56:" ∷ codes "1.2.3.4.5:80:" ∷ [])
+    ≡ [] ∷ [] ∷ [] ∷ [] ∷ [] ∷ [] ∷ [] ∷ []
+unfolding address_in behind_word begun_by before_port address_of digits v6_of gap_below
+no_ports_and_marks = refl
+
+-- an IPv6 address: a port is one only after dots, where no other part of an address can be
+pub ports_of_ipv6 : map (λ line. map (λ one. one.text) (addresses_of line)) (codes "::ffff:10.1.1.1:51234" ∷ codes
+    "64:ff9b::10.1.1.1:443: x" ∷ codes "2001:db8::1:443" ∷ codes "2001:db8::1:443:" ∷ codes "2001:db8::1:51234" ∷ codes
+    ":::80" ∷ []) ≡ (codes "::ffff:10.1.1.1" ∷ []) ∷ (codes "64:ff9b::10.1.1.1" ∷ []) ∷ (codes "2001:db8::1:443" ∷ [])
+    ∷ (codes "2001:db8::1:443" ∷ []) ∷ [] ∷ [] ∷ []
+unfolding address_in behind_word begun_by before_port address_of digits v6_of gap_below
+ports_of_ipv6 = refl
 
 -- what is before the colon may be of an address, or there are two words
 pub behind_no_word : map addresses_of (codes "dad:10.1.1.1" ∷ codes "1.2:10.1.1.1" ∷ codes ":10.1.1.1" ∷ codes

@@ -74,7 +74,7 @@ module _ (text line : List ℕ) (some : 0 < length text) where
       skip_byte at (omega (arith, e, within)) (ne_eqb _ _ (absent at (omega arith) (omega (arith, e))))
       ∙ skip_some count (at + 1) position (omega (arith, e)) within (λ p low high. absent p (omega (arith, low)) high)
 
-  -- the search goes on at the next position of the text's first byte
+  -- the search continues at the next position of the text's first byte
   pub skip : (at position : ℕ) → IsNext (get_or text 0 0) line at position
       → from_at text line at ≡ from_at text line position
   skip at position next = skip_some (position - at) at position (omega (arith, next.behind))

@@ -1,8 +1,9 @@
 -- A run whose last byte occurs in no address text.
-use Rattle.line_addresses.proofs.Words.{◌≡◌, ◌↔◌, ℕ, ◌+◌, ◌-◌, ◌<◌, ◌&&◌, Bool, true, false, cond, List, [], ◌∷◌, length, length-drop, take, drop, get_or, get_or-drop, Option, None, Some, refl, sym, ap, ◌∙◌, arith, true≢false, nat_le, nat_lt, list_all, is_ascii_digit, AllByRecursion, position_or_len, NamesIp, NamesV4, NamesV6, IsAddressByte, IpAddr, address_of, address_in, behind_word, begun_by, before_mark, before_port, ends_with_mark, is_address_byte, is_colon, is_mark, is_port, is_word, spelled}
+use Rattle.line_addresses.proofs.Words.{◌≡◌, ◌↔◌, ℕ, ◌+◌, ◌-◌, ◌<◌, ◌&&◌, Bool, true, false, cond, List, [], ◌∷◌, length, length-drop, take, drop, get_or, get_or-drop, Option, None, Some, refl, sym, ap, ◌∙◌, arith, true≢false, list_all, is_ascii_digit, AllByRecursion, position_or_len, NamesIp, NamesV4, NamesV6, IsAddressByte, IpAddr, address_of, address_in, behind_word, begun_by, before_port, ends_with_mark, is_address_byte, is_colon, is_mark, is_word}
 use Rattle.line_addresses.proofs.ByteKinds.{digit_passes, mark_passes, passes}
 use Rattle.line_addresses.proofs.FirstBytes.{bytes, none_named}
-use Rattle.line_addresses.proofs.Shown.{left, no_mark, not_begun, nothing_begun}
+use Rattle.line_addresses.proofs.Ports.{no_port, uncounted}
+use Rattle.line_addresses.proofs.Shown.{left_unmarked, not_begun, nothing_begun}
 use Rattle.std.proofs.lemmas.List.Folds.{list_all_at}
 
 abbrev last : List ℕ → ℕ
@@ -31,28 +32,9 @@ last_left text count some =
     omega (arith, some, length-drop count text) in
     get_or-drop count text (length (drop count text) - 1) 0 ∙ ap (λ i. get_or text i 0) same
 
-and_false : (a : Bool) → (a && false) ≡ false
-and_false true = refl
-and_false false = refl
-
-no_port : (text : List ℕ) → (0 < length text → list_all is_ascii_digit text ≡ false) → is_port text ≡ false
-no_port [] other = refl
-no_port (byte ∷ text) other =
-    ap (λ b. nat_lt 0 (length (byte ∷ text)) && nat_le (length (byte ∷ text)) 5 && b) (other (omega arith))
-    ∙ and_false (nat_lt 0 (length (byte ∷ text)) && nat_le (length (byte ∷ text)) 5)
-
--- what is left of the text is no port
-module _ (text : List ℕ) (other : is_address_byte (last text) ≡ false) where
-  no_digits_left : (count : ℕ) → 0 < length (drop count text) → list_all is_ascii_digit (drop count text) ≡ false
-  no_digits_left count some =
-      list_all_at is_ascii_digit (drop count text) (length (drop count text) - 1) 0 (omega (arith, some))
-      (ap is_ascii_digit (last_left text count some) ∙ no_digit (last text) other)
-
-  no_port_before : before_port text ≡ None
-  unfolding before_port
-  no_port_before =
-      ap (λ b. cond b (spelled (take (position_or_len is_colon text) text)) None)
-      (no_port (drop (position_or_len is_colon text + 1) text) (no_digits_left (position_or_len is_colon text + 1)))
+-- no digit ends the text
+no_port_before : (text : List ℕ) → is_address_byte (last text) ≡ false → before_port text ≡ None
+no_port_before text other = no_port text 0 (uncounted text (no_digit (last text) other)) refl
 
 module _ (named : (text : List ℕ) (address : IpAddr) → NamesIp text address ↔ (address_of text ≡ Some address))
     (v4_bytes : (text : List ℕ) (address : ℕ) → NamesV4 text address → AllByRecursion IsAddressByte text)
@@ -67,7 +49,7 @@ module _ (named : (text : List ℕ) (address : IpAddr) → NamesIp text address 
   none_begun_by (byte ∷ rest) other =
       let text = byte ∷ rest in
       let ends = other (omega arith) in
-      left text (none_named_by text (omega arith) ends) (no_mark text (no_mark_byte (last text) ends))
+      left_unmarked text (none_named_by text (omega arith) ends) (no_mark_byte (last text) ends)
       ∙ no_port_before text ends
 
   none_behind : (b : Bool) (rest : List ℕ) → begun_by rest ≡ None → begun_by (cond b rest []) ≡ None

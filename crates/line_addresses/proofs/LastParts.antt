@@ -48,7 +48,7 @@ uncut_part test line start end within uncut =
     rw (get_or-take (end - start) (drop start line) i 0 left, get_or-drop start line i 0)
     (uncut (start + i) (omega arith) (omega arith)))
 
--- the bytes before an index: those before a byte, that byte, and the part behind it
+-- the bytes before an index: those before a byte, that byte, and the part after it
 cut_apart : (line : List ℕ) (at end : ℕ) → at < end → end ≤ length line
     → take end line ≡ take at line ++ slice_index line at ∷ slice_range line (at + 1) end
 cut_apart line at end before within =
@@ -63,7 +63,7 @@ cut_apart line at end before within =
     ∙ ap (λ t. t ++ drop at (take end line)) (take-take at end line (omega (arith, before)))
     ∙ ap (λ t. take at line ++ t) rest
 
--- the last part of the bytes before `end`, if a byte that cuts stands before it, and none in it
+-- the last part of the bytes before `end`, if the byte before it divides parts, and none in it does
 pub parts_before : (separator : Option ℕ) (line : List ℕ) (at end : ℕ) → 0 < at → at ≤ end → end ≤ length line
     → cuts separator (slice_index line (at - 1)) ≡ true → ((position : ℕ) → at ≤ position → position < end
     → cuts separator (slice_index line position) ≡ false) → reverse (parts_of separator (take end line))

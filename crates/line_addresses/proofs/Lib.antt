@@ -1,5 +1,7 @@
+pub mod AfterWord
+pub mod AreaExamples
 pub mod Areas
-pub mod Behind
+pub mod ByteExamples
 pub mod ByteKinds
 pub mod Examples
 pub mod FirstBytes
@@ -7,6 +9,7 @@ pub mod FirstPositions
 pub mod Known
 pub mod LastBytes
 pub mod LastParts
+pub mod LawExamples
 pub mod LineParts
 pub mod MappedExamples
 pub mod NetworkExamples

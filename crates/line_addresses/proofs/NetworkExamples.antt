@@ -20,7 +20,7 @@ pub addresses : map networks_of (codes "10.1.1.1" ∷ codes "10.1.1.1:80" ∷ co
 unfolding network_in network_begun_by named_network address_in behind_word begun_by before_port address_of digits v6_of gap_below
 addresses = refl
 
--- behind a word and a colon; a `/` before the colon is not of a word
+-- after a word and a colon; a word has no `/`
 pub behind_words : map networks_of (codes "ip4:10.1.1.1/24" ∷ codes "net:10.1.1.1/24." ∷ codes "x/net:10.1.1.1/24" ∷
     codes "ip4:10.1.1.1/99" ∷ codes "dad:10.1.1.1/24" ∷ []) ≡ net ∷ net ∷ ten ∷ ten ∷ [] ∷ []
 unfolding network_in network_begun_by named_network address_in behind_word begun_by before_port address_of digits v6_of

@@ -45,7 +45,7 @@ pub parts_at_places : map (λ place. at_place place (codes "a" ∷ codes "b" ∷
     ≡ Some (codes "a") ∷ Some (codes "b") ∷ None ∷ Some (codes "b") ∷ Some (codes "a") ∷ None ∷ []
 parts_at_places = refl
 
--- the last field is empty behind a separator, and the last word stands before the blanks that end a line
+-- the last field is empty after a separator, and the last word is the one before the blanks that end a line
 pub last_parts : at_place (places.FromEnd 1) (fields_of 44 (codes "a,b,")) ≡ Some []
 last_parts = refl
 

@@ -1,51 +1,95 @@
 -- The address before a port.
-use Rattle.line_addresses.proofs.Words.{◌≡◌, ℕ, ◌+◌, Bool, true, false, cond, List, length, take, drop, Option, None, Some, refl, ap, ◌∙◌, arith, position_or_len, eq-eqb, ne_eqb, drop_all, position_or_len_is, IsAbsent, IsNext, IpAddr, Spelled, address_of, with_text, spelled, is_colon, is_port, before_port, Shows}
+use Rattle.line_addresses.proofs.Words.{◌≡◌, ℕ, ◌-◌, ◌<◌, ◌≤◌, ◌&&◌, Bool, true, false, cond, not, List, length, length-take, take, get_or, Option, None, Some, ap, sym, ◌∙◌, arith, reverse, is_ascii_digit, position_or_len_is, cases_lt, inl, inr, take-take, MatchOption, IpAddr, Spelled, address_of, with_text, spelled, before_digits, before_port, digits_at_end, has_dot, is_port, Shows}
+use Rattle.std.proofs.lemmas.List.{get_or-reverse, length-reverse}
 
--- the index of the first colon
-pub position : (run : List ℕ) (colon : ℕ) → IsNext 58 run 0 colon → position_or_len is_colon run ≡ colon
-position run colon next =
-    position_or_len_is is_colon run colon 0 (omega (arith, next.within))
-    (λ k below. ne_eqb _ _ (next.between k (omega arith) below)) (λ below. eq-eqb _ _ next.there)
+-- ---- the digits that end a text
 
-pub no_position : (run : List ℕ) → IsAbsent 58 run 0 (length run) → position_or_len is_colon run ≡ length run
-no_position run absent =
-    position_or_len_is is_colon run (length run) 0 (omega arith) (λ k below. ne_eqb _ _ (absent k (omega arith) below))
-    (λ below. absurd (omega arith))
+counted : (text : List ℕ) (size : ℕ) → size ≤ length text
+    → ((k : ℕ) → length text - size ≤ k → k < length text → is_ascii_digit (get_or text k 0) ≡ true)
+    → (size < length text → is_ascii_digit (get_or text (length text - 1 - size) 0) ≡ false)
+    → digits_at_end text ≡ size
+counted text size within digits other =
+    position_or_len_is (λ byte. not (is_ascii_digit byte)) (reverse text) size 0
+    (omega (arith, length-reverse text, within))
+    (λ k below. ap (λ b. not (is_ascii_digit b)) (get_or-reverse text k 0 (omega (arith, below, within)))
+    ∙ ap not (digits (length text - 1 - k) (omega (arith, below, within)) (omega (arith, below, within))))
+    (λ below. let before : size < length text = omega (arith, below, length-reverse text) in
+    ap (λ b. not (is_ascii_digit b)) (get_or-reverse text size 0 before) ∙ ap not (other before))
 
--- what is before a port, if the first colon is at this index
-abbrev at_position : List ℕ → ℕ → Option Spelled
-at_position run colon = cond (is_port (drop (colon + 1) run)) (spelled (take colon run)) None
+-- the same, by the index at which the digits begin
+pub counted_from : (text : List ℕ) (at : ℕ) → at ≤ length text
+    → ((k : ℕ) → at ≤ k → k < length text → is_ascii_digit (get_or text k 0) ≡ true)
+    → (0 < at → is_ascii_digit (get_or text (at - 1) 0) ≡ false) → length text - at ≡ digits_at_end text
+counted_from text at within digits other =
+    sym (counted text (length text - at) (omega (arith, within))
+    (λ k from below. digits k (omega (arith, from, within)) below) (λ some.
+    let before : at - 1 ≡ length text - 1 - (length text - at) = omega (arith, some, within) in
+    ap (λ i. is_ascii_digit (get_or text i 0)) (sym before) ∙ other (omega (arith, some, within))))
 
-by_position : (run : List ℕ) (colon : ℕ) → position_or_len is_colon run ≡ colon
-    → before_port run ≡ at_position run colon
-unfolding before_port
-by_position run colon is = ap (at_position run) is
+-- one digit more
+pub one_more : (text : List ℕ) (at : ℕ) → 0 < at → is_ascii_digit (get_or text (at - 1) 0) ≡ true
+    → ((k : ℕ) → at ≤ k → k < length text → is_ascii_digit (get_or text k 0) ≡ true) → (k : ℕ) → at - 1 ≤ k
+    → k < length text → is_ascii_digit (get_or text k 0) ≡ true
+one_more text at some here digits k from below = elim (cases_lt k at) [
+  | inl before ↦ let same : at - 1 ≡ k = omega (arith, from, before, some) in
+      ap (λ i. is_ascii_digit (get_or text i 0)) (sym same) ∙ here
+  | inr behind ↦ digits k behind below
+]
 
-pub ported : (run : List ℕ) (colon : ℕ) (address : IpAddr) → IsNext 58 run 0 colon
-    → is_port (drop (colon + 1) run) ≡ true → address_of (take colon run) ≡ Some address
-    → Shows (before_port run) run address colon
-ported run colon address next port named = record {
-  within = omega (arith, next.within);
-  is = by_position run colon (position run colon next) ∙ ap (λ b. cond b (spelled (take colon run)) None) port
-      ∙ ap (with_text (take colon run)) named;
-}
+-- no digit
+pub uncounted : (text : List ℕ) → is_ascii_digit (get_or text (length text - 1) 0) ≡ false → 0 ≡ digits_at_end text
+uncounted text other =
+    let none : length text - length text ≡ 0 = omega arith in
+    sym none ∙ counted_from text (length text) (omega arith) (λ k from below. absurd (omega (arith, from, below)))
+    (λ some. other)
 
-pub no_port : (run : List ℕ) (colon : ℕ) → IsNext 58 run 0 colon → is_port (drop (colon + 1) run) ≡ false
-    → before_port run ≡ None
-no_port run colon next none = by_position run colon (position run colon next)
-    ∙ ap (λ b. cond b (spelled (take colon run)) None) none
+-- ---- the address before a port
 
-none_if : (b : Bool) (text : List ℕ) → address_of text ≡ None → cond b (spelled text) None ≡ None
-none_if true text none = ap (with_text text) none
-none_if false text none = refl
+module _ (run : List ℕ) (size : ℕ) (is : size ≡ digits_at_end run) where
+  by_size : before_port run ≡ before_digits size run
+  unfolding before_port
+  by_size = ap (λ n. before_digits n run) (sym is)
 
-pub no_address : (run : List ℕ) (colon : ℕ) → IsNext 58 run 0 colon → address_of (take colon run) ≡ None
-    → before_port run ≡ None
-no_address run colon next none = by_position run colon (position run colon next)
-    ∙ none_if (is_port (drop (colon + 1) run)) (take colon run) none
+  abbrev rest : List ℕ
+  rest = take (length run - size - 1) run
 
-pub no_colon : (run : List ℕ) → IsAbsent 58 run 0 (length run) → before_port run ≡ None
-no_colon run absent =
-    by_position run (length run) (no_position run absent)
-    ∙ ap (λ port. cond (is_port port) (spelled (take (length run) run)) None)
-    (drop_all (length run + 1) run (omega arith))
+  pub no_port : is_port size run ≡ false → before_port run ≡ None
+  no_port none = by_size ∙ ap (λ b. cond (b && has_dot rest) (spelled rest) None) none
+
+  module _ (port : is_port size run ≡ true) where
+    ends : before_port run ≡ cond (has_dot rest) (spelled rest) None
+    ends = by_size ∙ ap (λ b. cond (b && has_dot rest) (spelled rest) None) port
+
+    pub no_dot : has_dot rest ≡ false → before_port run ≡ None
+    no_dot none = ends ∙ ap (λ b. cond b (spelled rest) None) none
+
+    module _ (dotted : has_dot rest ≡ true) where
+      named : before_port run ≡ with_text rest (address_of rest)
+      named = ends ∙ ap (λ b. cond b (spelled rest) None) dotted
+
+      pub ported : (address : IpAddr) → address_of rest ≡ Some address
+          → Shows (before_port run) run address (length run - size - 1)
+      ported address one = record {
+        within = omega arith;
+        is = named ∙ ap (with_text rest) one;
+      }
+
+      pub no_address : address_of rest ≡ None → before_port run ≡ None
+      no_address none = named ∙ ap (with_text rest) none
+
+-- ---- what is shown in a beginning of a run is shown in the run
+
+shown_within : (found : Option Spelled) (run : List ℕ) (end : ℕ) (address : IpAddr) (size : ℕ) → end ≤ length run
+    → Shows found (take end run) address size → Shows found run address size
+shown_within found run end address size within shows =
+    let fits : size ≤ end = omega (arith, shows.within, length-take end run) in
+    record {
+      within = omega (arith, fits, within);
+      is = shows.is ∙ ap (λ text. Some (record { text = text; address = address })) (take-take size end run fits);
+    }
+
+pub shown_in : (found : Option Spelled) (run : List ℕ) (end : ℕ) (result : Option (IpAddr × ℕ)) → end ≤ length run
+    → MatchOption result (found ≡ None) (λ shown. Shows found (take end run) shown.0 shown.1)
+    → MatchOption result (found ≡ None) (λ shown. Shows found run shown.0 shown.1)
+shown_in found run end None within none = none
+shown_in found run end (Some (address, size)) within shows = shown_within found run end address size within shows

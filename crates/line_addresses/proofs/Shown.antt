@@ -1,5 +1,5 @@
 -- The address found in a run: that of its whole text, or of what comes before a mark.
-use Rattle.line_addresses.proofs.Words.{◌≡◌, ℕ, ◌+◌, ◌-◌, ◌<◌, ◌≤◌, ◌==◌, Bool, true, false, cond, List, [], ◌∷◌, length, length-drop, take, drop, get_or, Option, None, Some, refl, sym, ap, ◌∙◌, arith, digits, drop_all, take-length, nat_tests, v6_of, gap_below, IsAddressByte, IpAddr, Spelled, address_of, with_text, spelled, ends_with_mark, before_mark, before_port, begun_by, behind_word, or_else, address_in, Shows, IsPicked, Found}
+use Rattle.line_addresses.proofs.Words.{◌≡◌, ℕ, ◌+◌, ◌-◌, ◌<◌, ◌≤◌, ◌==◌, Bool, true, false, cond, List, [], ◌∷◌, length, length-drop, take, drop, get_or, Option, None, Some, refl, sym, ap, ◌∙◌, arith, digits, drop_all, take-length, nat_tests, v6_of, gap_below, IsAddressByte, IpAddr, Spelled, address_of, with_text, spelled, ends_with_mark, before_mark, without_mark, before_port, begun_by, behind_word, or_else, address_in, Shows, IsPicked, Found}
 
 -- an empty text names no address
 pub nothing_named : address_of [] ≡ None
@@ -9,9 +9,9 @@ nothing_named = refl
 pub nothing_begun : begun_by [] ≡ None
 unfolding begun_by before_port
 nothing_begun =
-    ap (λ found. or_else (with_text [] found) (or_else (before_mark []) (before_port []))) nothing_named
+    ap (λ found. or_else (with_text [] found) (or_else (before_mark []) (before_port (without_mark [])))) nothing_named
 
--- what begins a run is its address, else what is behind a word is
+-- the address of a run is the one that begins it, else the one after a word
 pub begins : (run : List ℕ) (found : Found) → IsPicked (begun_by run) run found → IsPicked (address_in run) run found
 unfolding address_in
 begins run found picked = record {
@@ -57,24 +57,29 @@ pub begun_by_other : ((byte : ℕ) (run : List ℕ) → ¬ (IsAddressByte byte) 
 begun_by_other law [] some other = absurd (omega (arith, some))
 begun_by_other law (byte ∷ run) some other = law byte run other
 
+-- the address that begins a run, by what the whole run names
+by_whole : (run : List ℕ) (found : Option IpAddr) → address_of run ≡ found
+    → begun_by run ≡ or_else (with_text run found) (or_else (before_mark run) (before_port (without_mark run)))
+unfolding begun_by
+by_whole run found is =
+    ap (λ o. or_else (with_text run o) (or_else (before_mark run) (before_port (without_mark run)))) is
+
 pub whole : (run : List ℕ) (address : IpAddr) → address_of run ≡ Some address
     → Shows (begun_by run) run address (length run)
-unfolding begun_by
 whole run address named = record {
   within = omega arith;
-  is = ap (λ found. or_else (with_text run found) (or_else (before_mark run) (before_port run))) named
+  is = by_whole run (Some address) named
       ∙ ap (λ text. Some (record { text = text; address = address })) (sym (take-length run));
 }
 
 pub marked : (run : List ℕ) (address : IpAddr) → address_of run ≡ None → ends_with_mark run ≡ true
     → address_of (take (length run - 1) run) ≡ Some address
     → Shows (begun_by run) run address (length run - 1)
-unfolding begun_by
 marked run address none ends named = record {
   within = omega arith;
-  is = ap (λ found. or_else (with_text run found) (or_else (before_mark run) (before_port run))) none
-      ∙ ap (λ b. or_else (cond b (spelled (take (length run - 1) run)) None) (before_port run)) ends
-      ∙ ap (λ found. or_else (with_text (take (length run - 1) run) found) (before_port run)) named;
+  is = by_whole run None none
+      ∙ ap (λ b. or_else (cond b (spelled (take (length run - 1) run)) None) (before_port (without_mark run))) ends
+      ∙ ap (λ found. or_else (with_text (take (length run - 1) run) found) (before_port (without_mark run))) named;
 }
 
 -- what comes before a mark names nothing
@@ -88,13 +93,24 @@ none_if false text none = refl
 pub no_rest : (run : List ℕ) → address_of (take (length run - 1) run) ≡ None → before_mark run ≡ None
 no_rest run none = none_if (ends_with_mark run) (take (length run - 1) run) none
 
-pub left : (run : List ℕ) → address_of run ≡ None → before_mark run ≡ None → begun_by run ≡ before_port run
-unfolding begun_by
+pub left : (run : List ℕ) → address_of run ≡ None → before_mark run ≡ None
+    → begun_by run ≡ before_port (without_mark run)
 left run none unmarked =
-    ap (λ found. or_else (with_text run found) (or_else (before_mark run) (before_port run))) none
-    ∙ ap (λ found. or_else found (before_port run)) unmarked
+    by_whole run None none ∙ ap (λ found. or_else found (before_port (without_mark run))) unmarked
 
--- ---- the position of a text that begins a run, or what is behind a word
+-- the same for a run that ends with a mark, and for one that does not
+pub left_unmarked : (run : List ℕ) → address_of run ≡ None → ends_with_mark run ≡ false
+    → begun_by run ≡ before_port run
+left_unmarked run none unmarked =
+    left run none (no_mark run unmarked)
+    ∙ ap (λ b. before_port (cond b (take (length run - 1) run) run)) unmarked
+
+pub left_marked : (run : List ℕ) → address_of run ≡ None → ends_with_mark run ≡ true
+    → address_of (take (length run - 1) run) ≡ None → begun_by run ≡ before_port (take (length run - 1) run)
+left_marked run none ends rest =
+    left run none (no_rest run rest) ∙ ap (λ b. before_port (cond b (take (length run - 1) run) run)) ends
+
+-- ---- the position of a text that begins a run, or of one after a word
 
 pub at_start : (one : Option Spelled) (run : List ℕ) (address : IpAddr) (size next : ℕ) → Shows one run address size
     → IsPicked one run (record { address = address; start = 0; end = size; next = next })
@@ -125,7 +141,7 @@ module _ (reads : List ℕ → Option Spelled) (run part : List ℕ) (start : �
   pub none_at_rest : reads part ≡ None → reads (behind_word run) ≡ None
   none_at_rest none = ap reads (sym (is ∙ rest)) ∙ none
 
--- nothing is behind a word
+-- nothing follows a word
 pub nothing_at_rest : (run : List ℕ) (start : ℕ) → drop start run ≡ behind_word run → start ≡ length run
     → begun_by (behind_word run) ≡ None
 nothing_at_rest run start rest end = ap begun_by (sym rest ∙ drop_all start run (omega (arith, end))) ∙ nothing_begun

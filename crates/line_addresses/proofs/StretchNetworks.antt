@@ -51,7 +51,7 @@ module _ (stretch : List ℕ) (has : has_slash stretch ≡ true) where
   unfolding network_in
   with_slash = ap (λ b. cond b (or_else (network_begun_by stretch) (network_begun_by (behind_word stretch))) None) has
 
-  -- what begins a stretch is its network, else what is behind a word is
+  -- the network of a stretch is the one that begins it, else the one after a word
   pub network_begins : (found : Found) → IsPicked (network_begun_by stretch) stretch found
       → IsPicked (network_in stretch) stretch found
   network_begins found picked = record {

@@ -1,4 +1,4 @@
--- The value behind a text.
+-- The value after a text.
 use Rattle.line_addresses.proofs.Words.{◌≡◌, ℕ, ◌+◌, ◌<◌, ◌≤◌, true, false, cond, not, List, ◌∷◌, Option, length, take, drop, get_or, None, Some, sym, ap, ◌∙◌, arith, drop_all, drop_more, is_some, position_or_len_is, MatchOption, IsPicked, IsRunEnd, Spelled, Found, first_run, is_run_byte, opened, opened_from, opens}
 
 -- ---- the bytes that are passed over

@@ -11,11 +11,12 @@ pub use Rattle.ipnetwork_addr.specs.Texts.{Colon, Digit, Dot, IsAddressByte, Low
 pub use Rattle.ipnetwork_addr.specs.declared.ip.IpAddr.{IpAddr}
 pub use Rattle.ipnetwork_addr.specs.declared.ip.IpAddr.TheVariants.{V4, V6}
 unfoldable pub use Rattle.line_addresses.specs.Addresses.{address_in, address_of, before_port, begun_by, behind_word}
-pub use Rattle.line_addresses.specs.Addresses.{Spelled, addresses_of, before_mark, ends_with_mark, is_address_byte, is_colon, is_mark, is_port, is_word, or_else, spelled, with_text}
-pub use Rattle.line_addresses.specs.Areas.{IsPicked, each_of, last_of, picked}
+pub use Rattle.line_addresses.specs.Addresses.{Spelled, addresses_of, before_digits, before_mark, digits_at_end, ends_with_mark, has_dot, is_address_byte, is_colon, is_mark, is_port, is_word, or_else, spelled, with_text, without_mark}
+pub use Rattle.line_addresses.specs.Areas.{IsPicked, each_of, last_of, picked, spelled_in}
 pub use Rattle.line_addresses.specs.Fields.{field_of, fields_of}
 pub use Rattle.line_addresses.specs.Following.{begins_name, begun_by_address, first_run, following, following_from, is_name_byte, opened, opened_from, opens, value_after}
 pub use Rattle.line_addresses.specs.Found.{IsNextOf, StopsARun, spelled_at}
+pub use Rattle.line_addresses.specs.Laws.{BeginsNoAddress, EndsNoAddress, NamedAddress}
 pub use Rattle.line_addresses.specs.LineRuns.{is_run_byte}
 unfoldable pub use Rattle.line_addresses.specs.Networks.{named_network, network_begun_by, network_in}
 pub use Rattle.line_addresses.specs.Networks.{address_read, found_of, has_slash, is_slash, is_stretch_byte, network_before_mark, networks_in, networks_of, or_addresses, spelled_network}
@@ -29,8 +30,9 @@ pub use Rattle.line_addresses.specs.declared.area.Part.{Part}
 pub use Rattle.line_addresses.specs.declared.area.Pick.{Pick}
 pub use Rattle.line_addresses.specs.declared.byte_kind.TheConstants.{KINDS}
 pub use Rattle.line_addresses.specs.declared.found.Found.{Found}
+pub use Rattle.ipnetwork_addr.proofs.Examples.{none_before_the_capitals, none_before_the_dot, none_from_capital_g, none_from_letter_g}
 pub use Rattle.lines.proofs.BytesLemmas.{first_behind, none_behind, split_at, split_none, split_text}
-pub use Rattle.std.proofs.Common.{Bool, List, None, Option, Some, [], ap, append_assoc, arith, cond, drop, false, get_or, inl, inr, length, length-drop, length-take, min, not, refl, subst, suc, sym, take, true, true≢false, zero, ℕ, ◌&&◌, ◌++◌, ◌+◌, ◌-◌, ◌<◌, ◌==◌, ◌^◌, ◌↔◌, ◌∙◌, ◌∷◌, ◌≡◌, ◌≢◌, ◌≤◌, ◌⊎◌}
+pub use Rattle.std.proofs.Common.{Bool, List, None, Option, Some, [], ap, append_assoc, arith, cond, drop, false, get_or, inl, inr, length, length-drop, length-take, lit<, min, not, refl, subst, suc, sym, take, true, true≢false, zero, ℕ, ◌&&◌, ◌++◌, ◌+◌, ◌-◌, ◌<◌, ◌==◌, ◌^◌, ◌↔◌, ◌∙◌, ◌∷◌, ◌≡◌, ◌≢◌, ◌≤◌, ◌⊎◌}
 pub use Rattle.std.proofs.Math.Seq.{take-length}
 pub use Rattle.std.proofs.lemmas.Bool.{agree_below_at, cases_lt, eq-eqb, eqb-true, ne_eqb}
 pub use Rattle.std.proofs.lemmas.Bool.Decides.{nat_tests}

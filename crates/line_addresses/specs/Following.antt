@@ -11,7 +11,7 @@ use Rattle.line_addresses.specs.Words.{is_blank}
 abbrev pub is_name_byte : ℕ → Bool
 is_name_byte byte = is_ascii_alphanumeric byte || byte == 45 || byte == 46 || byte == 95
 
--- no name goes on from one byte to the next
+-- no name continues from one byte to the next
 abbrev pub begins_name : ℕ → ℕ → Bool
 begins_name before byte = not (is_name_byte before && is_name_byte byte)
 
@@ -47,6 +47,7 @@ first_run text = before_first (λ byte. not (is_run_byte byte)) text
 abbrev pub begun_by_address : List ℕ → Option (List ℕ)
 begun_by_address text = if is_some (address_in (first_run text)) then Some text else None
 
--- the value behind the text in the line: what follows, behind blanks, quotation marks and `[`, if an address is there
+-- the value after the text in the line: what follows blanks, quotation marks and `[` there, if that begins with an
+-- address
 abbrev pub value_after : List ℕ → List ℕ → Option (List ℕ)
 value_after text line = option_and_then (λ rest. begun_by_address (opened rest)) (following text line)

@@ -46,7 +46,7 @@ network_before_mark stretch =
 unfoldable pub network_begun_by : List ℕ → Option Spelled
 network_begun_by stretch = or_else (spelled_network stretch) (network_before_mark stretch)
 
--- the network of a stretch that has a `/`: the one that begins it, else the one that begins what is behind a word and a
+-- the network of a stretch that has a `/`: the one that begins it, else the one that begins what follows a word and a
 -- `:`
 unfoldable pub network_in : List ℕ → Option Spelled
 network_in stretch =

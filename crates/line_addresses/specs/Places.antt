@@ -16,7 +16,7 @@ abbrev pub place_text : Place → List ℕ
 place_text (places.Number number) = decimal number
 place_text (places.FromEnd number) = 45 ∷ decimal number
 
--- the part at a place, if there are so many: 1 is the first, and counted from the end the last
+-- the part at a place, if there is one: 1 is the first part or, counted from the end, the last
 abbrev pub at_place : Place → List (List ℕ) → Option (List ℕ)
 at_place (places.Number number) parts = slice_get parts (number - 1)
 at_place (places.FromEnd number) parts = slice_get (reverse parts) (number - 1)

@@ -7,7 +7,7 @@ ghost use Rattle.line_addresses.specs.LineRuns.{is_run_byte};
 use crate::byte_kind::{is_address_byte, is_run_byte};
 use byte_search::find_from;
 
-/// Returns the index behind the word and the `:` that begin a text, or its length if none begin it.
+/// Returns the index after the word and the `:` that begin a text, or its length if none do.
 #[inline(always)]
 pub(crate) fn behind_word(text: &[u8]) -> usize
     ensures within { result ≤ length text.now }

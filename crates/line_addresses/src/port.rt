@@ -1,24 +1,40 @@
 //! The port number after an address.
-ghost use Rattle.std.specs.Prelude.{◌≡◌};
-ghost use Rattle.std.specs.Char.{is_ascii_digit};
-ghost use Rattle.std.specs.List.{list_all};
-ghost use Rattle.line_addresses.specs.Addresses.{is_port};
+ghost use Rattle.std.specs.Prelude.{◌≡◌, ◌<◌, ◌≤◌, IsTrue, length};
+ghost use Rattle.line_addresses.specs.Addresses.{digits_at_end, has_dot, is_port};
 
-/// Returns whether a text is one to five digits.
-pub(crate) fn is_port(text: &[u8]) -> bool
-    ensures { result ≡ is_port text.now }
+/// Returns how many digits end a text.
+pub(crate) fn digits_at_end(text: &[u8]) -> usize
+    ensures within { result ≤ length text.now }
+    ensures is { result ≡ digits_at_end text.now }
 {
-    !text.is_empty() && text.len() <= 5 && are_digits(text)
+    let mut at = text.len();
+    'digits: while at > 0 {
+        if !text[at - 1].is_ascii_digit() {
+            return text.len() - at;
+        }
+        at -= 1;
+    }
+    text.len()
 }
 
-// Returns whether each byte is a digit.
-fn are_digits(text: &[u8]) -> bool
-    ensures { result ≡ list_all is_ascii_digit text.now }
+/// Returns whether this many bytes at the end of a text are as many as the digits of a port, and a
+/// `:` is before them.
+pub(crate) fn is_port(size: usize, text: &[u8]) -> bool
+    ensures is { result ≡ is_port size text.now }
+    ensures within { IsTrue result → size < length text.now }
 {
-    for byte in text {
-        if !byte.is_ascii_digit() {
-            return false;
-        }
+    if size == 0 || size > 5 {
+        return false;
     }
-    true
+    if size >= text.len() {
+        return false;
+    }
+    text[text.len() - 1 - size] == b':'
+}
+
+/// Returns whether a text has a `.`.
+pub(crate) fn has_dot(text: &[u8]) -> bool
+    ensures { result ≡ has_dot text.now }
+{
+    text.iter().any(|byte| *byte == b'.')
 }

@@ -9,8 +9,7 @@ use crate::byte_kind::{is_address_byte, is_run_byte};
 use crate::found::Found;
 use crate::laws;
 use crate::named::behind_word;
-use crate::port::is_port;
-use byte_search::find_from;
+use crate::port::{digits_at_end, has_dot, is_port};
 use ipnetwork_addr::IpAddr;
 
 /// Returns the index after the run bytes that begin at `start`.
@@ -86,13 +85,14 @@ fn begun_by(run: &[u8]) -> Option<(IpAddr, usize)>
     if let Some(address) = address_of(run) {
         return Some((address, run.len()));
     }
-    if ends_with_mark(run) {
-        let end = run.len() - 1;
-        if let Some(address) = address_of(&run[..end]) {
-            return Some((address, end));
-        }
+    if !ends_with_mark(run) {
+        return before_port(run);
     }
-    before_port(run)
+    let end = run.len() - 1;
+    if let Some(address) = address_of(&run[..end]) {
+        return Some((address, end));
+    }
+    before_port(&run[..end])
 }
 
 /// Returns the address that `IpAddr::read_bytes` reads from a text, or `None` if it refuses it.
@@ -123,19 +123,21 @@ pub(crate) fn ends_with_mark(text: &[u8]) -> bool
     last == b'.' || last == b':'
 }
 
-// Returns the address before the first `:` and the length of its text, if a port follows the `:`.
+// Returns the address before a port that ends a run, and the length of its text, if it has a `.`.
 fn before_port(run: &[u8]) -> Option<(IpAddr, usize)>
     ensures { MatchOption result (before_port run.now ≡ None)
         (λ shown. Shows (before_port run.now) run.now shown.0 shown.1) }
 {
-    let Some(colon) = find_from(run, 0, b':') else {
-        return None;
-    };
-    if !is_port(&run[colon + 1..]) {
+    let size = digits_at_end(run);
+    if !is_port(size, run) {
         return None;
     }
-    match address_of(&run[..colon]) {
-        Some(address) => Some((address, colon)),
+    let end = run.len() - size - 1;
+    if !has_dot(&run[..end]) {
+        return None;
+    }
+    match address_of(&run[..end]) {
+        Some(address) => Some((address, end)),
         None => None,
     }
 }

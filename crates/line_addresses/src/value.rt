@@ -1,4 +1,4 @@
-//! The value behind a text in a line.
+//! The value after a text in a line.
 ghost use Rattle.std.specs.Prelude.{◌≡◌, ◌≤◌, None, Some, MatchOption, length, drop, is_some};
 ghost use Rattle.line_addresses.specs.Addresses.{address_in};
 ghost use Rattle.line_addresses.specs.Following.{first_run, opened, opens, value_after};
@@ -6,8 +6,9 @@ ghost use Rattle.line_addresses.specs.Following.{first_run, opened, opens, value
 use crate::first_position::following;
 use crate::run::{address_in, run_end};
 
-/// Returns what follows a text in a line, behind blanks, quotation marks and `[`, if an address is
-/// there; else `None`. It is the first occurrence of the text that counts, and none inside a name.
+/// Returns what follows a text in a line, without the blanks, quotation marks and `[` that come
+/// first, if it begins with an address, and otherwise `None`. Only the first occurrence of the text
+/// counts, and none inside a name.
 ///
 /// ```
 /// let line = b"{\"peer_ip\":\"10.1.1.1\",\"ip\":\"10.1.1.2\",\"user\":null}";
@@ -37,7 +38,7 @@ fn begins_with_address(text: &[u8]) -> bool
     address_in(&text[..run_end(text, 0)]).is_some()
 }
 
-// Returns the index behind the blanks, quotation marks and `[` that begin a text.
+// Returns the index after the blanks, quotation marks and `[` that begin a text.
 fn opened_at(text: &[u8]) -> usize
     ensures within { result ≤ length text.now }
     ensures rest { drop result text.now ≡ opened text.now }

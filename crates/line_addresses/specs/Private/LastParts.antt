@@ -8,12 +8,12 @@ abbrev pub parts_of : Option ℕ → List ℕ → List (List ℕ)
 parts_of (Some separator) line = fields_of separator line
 parts_of None line = words_of line
 
--- the byte stands between two parts
+-- the byte divides two parts
 abbrev pub cuts : Option ℕ → ℕ → Bool
 cuts (Some separator) byte = byte == separator
 cuts None byte = is_blank byte
 
--- the part is no word, since it is empty between blanks
+-- the part is not a word, since it is empty between blanks
 abbrev pub is_skipped : Option ℕ → List ℕ → Bool
 is_skipped (Some separator) part = false
 is_skipped None part = length part == 0

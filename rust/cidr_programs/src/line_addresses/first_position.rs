@@ -33,8 +33,8 @@ pub fn following<'a>(line: &'a [u8], text: &[u8]) -> Option<&'a [u8]> {
     None
 }
 
-// Returns whether no name goes on from the byte before a position to the one at it. A space counts
-// as the byte before the line.
+// Returns whether no name continues from the byte before a position to the byte at it. A space
+// counts as the byte before the line.
 fn begins_name(line: &[u8], position: usize) -> bool {
     position == 0 || !is_name_byte(line[position - 1]) || !is_name_byte(line[position])
 }

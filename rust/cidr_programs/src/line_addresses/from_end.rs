@@ -28,7 +28,7 @@ pub fn word_from_end(line: &[u8], number: u32) -> Option<&[u8]> {
 }
 
 // Returns the field with this number, counted from the end of the line, or the word if there is no
-// separator. The line is read backwards, as far as that part begins.
+// separator. The line is read backwards, up to the beginning of that part.
 fn part_from_end(line: &[u8], number: u32, separator: Option<u8>) -> Option<&[u8]> {
     let mut end = line.len();
     let mut at = end;
@@ -58,7 +58,7 @@ fn part_from_end(line: &[u8], number: u32, separator: Option<u8>) -> Option<&[u8
     Some(part)
 }
 
-// Returns whether a part is no word, since it is empty between blanks.
+// Returns whether a part is not a word, since it is empty between blanks.
 fn is_skipped(separator: Option<u8>, part: &[u8]) -> bool {
     match separator {
         Some(_) => false,

@@ -5,7 +5,7 @@
 use crate::line_addresses::byte_kind::{is_address_byte, is_run_byte};
 use fosibegan_core::byte_search::find_from;
 
-/// Returns the index behind the word and the `:` that begin a text, or its length if none begin it.
+/// Returns the index after the word and the `:` that begin a text, or its length if none do.
 #[inline(always)]
 pub(crate) fn behind_word(text: &[u8]) -> usize {
     let Some(colon) = find_from(text, 0, b':') else {

@@ -2,17 +2,31 @@
 
 //! The port number after an address.
 
-/// Returns whether a text is one to five digits.
-pub(crate) fn is_port(text: &[u8]) -> bool {
-    !text.is_empty() && text.len() <= 5 && are_digits(text)
+/// Returns how many digits end a text.
+pub(crate) fn digits_at_end(text: &[u8]) -> usize {
+    let mut at = text.len();
+    'digits: while at > 0 {
+        if !text[at - 1].is_ascii_digit() {
+            return text.len() - at;
+        }
+        at -= 1;
+    }
+    text.len()
 }
 
-// Returns whether each byte is a digit.
-fn are_digits(text: &[u8]) -> bool {
-    for byte in text {
-        if !byte.is_ascii_digit() {
-            return false;
-        }
+/// Returns whether this many bytes at the end of a text are as many as the digits of a port, and a
+/// `:` is before them.
+pub(crate) fn is_port(size: usize, text: &[u8]) -> bool {
+    if size == 0 || size > 5 {
+        return false;
     }
-    true
+    if size >= text.len() {
+        return false;
+    }
+    text[text.len() - 1 - size] == b':'
+}
+
+/// Returns whether a text has a `.`.
+pub(crate) fn has_dot(text: &[u8]) -> bool {
+    text.iter().any(|byte| *byte == b'.')
 }

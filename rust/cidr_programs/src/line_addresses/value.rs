@@ -1,12 +1,13 @@
 // Written by scripts/plain out of crates/line_addresses/src/value.rt
 
-//! The value behind a text in a line.
+//! The value after a text in a line.
 
 use crate::line_addresses::first_position::following;
 use crate::line_addresses::run::{address_in, run_end};
 
-/// Returns what follows a text in a line, behind blanks, quotation marks and `[`, if an address is
-/// there; else `None`. It is the first occurrence of the text that counts, and none inside a name.
+/// Returns what follows a text in a line, without the blanks, quotation marks and `[` that come
+/// first, if it begins with an address, and otherwise `None`. Only the first occurrence of the text
+/// counts, and none inside a name.
 ///
 /// ```
 /// # use cidr_programs::in_examples::*;
@@ -32,7 +33,7 @@ fn begins_with_address(text: &[u8]) -> bool {
     address_in(&text[..run_end(text, 0)]).is_some()
 }
 
-// Returns the index behind the blanks, quotation marks and `[` that begin a text.
+// Returns the index after the blanks, quotation marks and `[` that begin a text.
 fn opened_at(text: &[u8]) -> usize {
     let mut at = 0;
     let mut before = 0;

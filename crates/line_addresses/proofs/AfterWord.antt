@@ -1,8 +1,19 @@
--- What is behind a word and a `:`.
-use Rattle.line_addresses.proofs.Words.{◌≡◌, ℕ, ◌+◌, Bool, true, false, cond, List, [], length, take, drop, refl, sym, ap, ◌∙◌, arith, drop_all, position_or_len, IsAbsent, IsNext, behind_word, is_colon, is_word}
-use Rattle.line_addresses.proofs.Ports.{no_position, position}
+-- What follows a word and a `:`.
+use Rattle.line_addresses.proofs.Words.{◌≡◌, ℕ, ◌+◌, Bool, true, false, cond, List, [], length, take, drop, refl, sym, ap, ◌∙◌, arith, drop_all, eq-eqb, ne_eqb, position_or_len, position_or_len_is, IsAbsent, IsNext, behind_word, is_colon, is_word}
 
--- what is behind a word, if the first colon is at this index
+-- ---- the index of the first colon
+
+position : (text : List ℕ) (colon : ℕ) → IsNext 58 text 0 colon → position_or_len is_colon text ≡ colon
+position text colon next =
+    position_or_len_is is_colon text colon 0 (omega (arith, next.within))
+    (λ k below. ne_eqb _ _ (next.between k (omega arith) below)) (λ below. eq-eqb _ _ next.there)
+
+no_position : (text : List ℕ) → IsAbsent 58 text 0 (length text) → position_or_len is_colon text ≡ length text
+no_position text absent =
+    position_or_len_is is_colon text (length text) 0 (omega arith)
+    (λ k below. ne_eqb _ _ (absent k (omega arith) below)) (λ below. absurd (omega arith))
+
+-- what follows a word, if the first colon is at this index
 abbrev at_position : List ℕ → ℕ → List ℕ
 at_position text colon = cond (is_word (take colon text)) (drop (colon + 1) text) []
 
