@@ -5,7 +5,7 @@ use Rattle.options.specs.declared.table.Kind.TheVariants as kinds
 are_all : (a b c d : Bool) → a ≡ true → b ≡ false → c ≡ false → d ≡ false → (a && not b && not c && not d) ≡ true
 are_all a b c d p q r s = rw (p, q, r, s)
 
--- a comma, a tab, the last byte of ASCII and the one behind it, NUL, LF and CR
+-- a comma, a tab, the last byte of ASCII and the one after it, NUL, LF and CR
 pub separators : map (is_right kinds.Separator) ((44 ∷ []) ∷ (9 ∷ []) ∷ (127 ∷ []) ∷ (128 ∷ []) ∷ (0 ∷ []) ∷ (10 ∷ [])
     ∷ (13 ∷ []) ∷ []) ≡ true ∷ true ∷ true ∷ false ∷ false ∷ false ∷ false ∷ []
 separators = refl
@@ -58,3 +58,7 @@ any_place text first last = rw (first, last) refl
 pub rules : map (is_right kinds.Rule) (codes "drop" ∷ codes "keep" ∷ codes "stop" ∷ codes "report" ∷ codes "Stop" ∷ []
     ∷ []) ≡ true ∷ true ∷ true ∷ true ∷ false ∷ false ∷ []
 rules = refl
+
+pub forms : map (is_right kinds.Form) (codes "csv" ∷ codes "ipset" ∷ codes "nft" ∷ codes "json" ∷ codes "Csv" ∷ []
+    ∷ []) ≡ true ∷ true ∷ true ∷ false ∷ false ∷ false ∷ []
+forms = refl

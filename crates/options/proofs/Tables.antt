@@ -1,4 +1,4 @@
--- The rows and pairs of a table that is given in definitions, for examples: what is told of wrong words makes no
+-- The rows and pairs of a table that is given in definitions, for examples: what is reported of wrong words makes no
 -- difference.
 use Rattle.options.proofs.Words.{Option, None, Some, Entry, Pair, Row}
 use Rattle.std.specs.Prelude.{ℕ, List, [], ◌∷◌, map}

@@ -34,7 +34,7 @@ pub long_names :
     ∷ (says.Joined 3 [] (codes "--nth=") ∷ []) ∷ (says.Joined 3 (codes "a=b") (codes "--nth=a=b") ∷ []) ∷ []
 long_names = refl
 
--- the first byte of `é` (195), a part of a name, more than a name, a value behind a name that takes none there
+-- the first byte of `é` (195), a part of a name, more than a name, a value after a name that takes none there
 pub no_options : map (free_items rows) (codes "-x" ∷ codes "-vxn5" ∷ (45 ∷ 118 ∷ 195 ∷ 169 ∷ []) ∷ codes "--al"
     ∷ codes "--all=" ∷ codes "--after=x" ∷ codes "---" ∷ codes "--n5" ∷ [])
     ≡ (says.Unknown (codes "-x") ∷ []) ∷ (says.Flag 0 ∷ says.Unknown (codes "-vxn5") ∷ [])
@@ -56,19 +56,19 @@ next_words = refl
 -- ---- words
 
 module _ {Z : Type 0} (first second third : String Z) where
-  -- behind `-qn` any word is the value, and a `-` behind that is a FILE
+  -- after `-qn` any word is the value, and a `-` after that is a FILE
   pub any_value : string_bytes first ≡ codes "-qn" → string_bytes third ≡ codes "-"
       → items_of rows modes.Free (first ∷ second ∷ third ∷ []) ≡ says.Flag 1 ∷ says.Value 2 (string_bytes second)
       ∷ says.File (codes "-") ∷ []
   any_value opens file = rw (opens, file) refl
 
-  -- behind `--` each word is a FILE
+  -- after `--` each word is a FILE
   pub any_files : string_bytes first ≡ codes "--"
       → items_of rows modes.Free (first ∷ second ∷ third ∷ []) ≡ says.File (string_bytes second)
       ∷ says.File (string_bytes third) ∷ []
   any_files dashes = rw dashes refl
 
-  -- an option may stand behind a FILE, and lack its value
+  -- an option may be after a FILE, and lack its value
   pub no_value : string_bytes first ≡ codes "a" → string_bytes second ≡ codes "-n5" → string_bytes third ≡ codes "-vn"
       → items_of rows modes.Free (first ∷ second ∷ third ∷ [])
       ≡ says.File (codes "a") ∷ says.Joined 2 (codes "5") (codes "-n5") ∷ says.Flag 0 ∷ says.Lacks 2 ∷ []

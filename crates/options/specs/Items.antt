@@ -14,7 +14,7 @@ use Rattle.options.specs.declared.table.Row.{Row}
 abbrev pub begins : List ℕ → List ℕ → Bool
 begins first text = bytes_eq (take (length first) text) first
 
--- the word, where an option may stand, is a FILE: it is `-`, or does not begin with `-`
+-- the word, where an option may be, is a FILE: it is `-`, or does not begin with `-`
 abbrev pub is_plain : List ℕ → Bool
 is_plain word = bytes_eq word (codes "-") || not (begins (codes "-") word)
 
@@ -46,18 +46,18 @@ letters rows first word (letter ∷ text) =
     if nat_lt letter 128 then letter_items rows first word text (lettered letter rows) (letters rows false word text)
     else says.Unknown word ∷ []
 
--- where the next word stands after an option that takes a value: it is that value if nothing follows the letter
+-- where the next word is after an option that takes a value: it is that value if nothing follows the letter
 abbrev pub opened : ℕ → List ℕ → Mode
 opened row [] = modes.Value row
 opened row (byte ∷ text) = modes.Free
 
--- where the next word stands after a letter and what follows it: an option with a value decides by itself, and one
+-- where the next word is after a letter and what follows it: an option with a value decides by itself, and one
 -- without leaves it to the letters that follow (`next`)
 abbrev pub letter_mode : List Row → List ℕ → Option ℕ → Mode → Mode
 letter_mode rows text None next = modes.Free
 letter_mode rows text (Some row) next = if takes_value (kind_at rows row) then opened row text else next
 
--- where the next word stands after a text of letters
+-- where the next word is after a text of letters
 abbrev pub letters_mode : List Row → List ℕ → Mode
 letters_mode rows [] = modes.Free
 letters_mode rows (letter ∷ text) = if nat_lt letter 128
@@ -70,18 +70,18 @@ name_items rows word (Some row) other = if takes_value (kind_at rows row) then [
 name_items rows word None (Some row) = says.Joined row (after_first (λ byte. byte == 61) word) word ∷ []
 name_items rows word None None = says.Unknown word ∷ []
 
--- the row of the long name that stands before the first `=` (byte 61) of the word, if a value may follow it there
+-- the row of the long name that is before the first `=` (byte 61) of the word, if a value may follow it there
 abbrev pub joined_name : List Row → List ℕ → Option ℕ
 joined_name rows word =
     if nat_lt (position_or_len (λ byte. byte == 61) word) (length word)
     then joined (before_first (λ byte. byte == 61) word) rows else None
 
--- where the next word stands after a word that begins with `--`
+-- where the next word is after a word that begins with `--`
 abbrev pub name_mode : List Row → Option ℕ → Mode
 name_mode rows None = modes.Free
 name_mode rows (Some row) = if takes_value (kind_at rows row) then modes.Value row else modes.Free
 
--- the items of a word that stands where an option may
+-- the items of a word where an option may be
 abbrev pub free_items : List Row → List ℕ → List Item
 free_items rows word =
     if is_plain word then says.File word ∷ []
@@ -89,7 +89,7 @@ free_items rows word =
     else if begins (codes "--") word then name_items rows word (named word rows) (joined_name rows word)
     else letters rows true word (drop 1 word)
 
--- where the next word stands after a word that stands where an option may
+-- where the next word is after a word where an option may be
 abbrev pub free_mode : List Row → List ℕ → Mode
 free_mode rows word =
     if is_plain word then modes.Free
@@ -97,13 +97,13 @@ free_mode rows word =
     else if begins (codes "--") word then name_mode rows (named word rows)
     else letters_mode rows (drop 1 word)
 
--- the items of a word, by where it stands
+-- the items of a word, by where it is
 abbrev pub word_items : List Row → Mode → List ℕ → List Item
 word_items rows modes.Free word = free_items rows word
 word_items rows (modes.Value row) word = says.Value row word ∷ []
 word_items rows modes.Files word = says.File word ∷ []
 
--- where the next word stands after a word, by where that stands
+-- where the next word is after a word, by where that is
 abbrev pub next_mode : List Row → Mode → List ℕ → Mode
 next_mode rows modes.Free word = free_mode rows word
 next_mode rows (modes.Value row) word = modes.Free
@@ -115,7 +115,7 @@ end_items modes.Free = []
 end_items (modes.Value row) = says.Lacks row ∷ []
 end_items modes.Files = []
 
--- the items that these words say, by where the first of them stands
+-- the items that these words say, by where the first of them is
 abbrev pub items_of : {Z : Type 0} → List Row → Mode → List (String Z) → List Item
 items_of rows mode [] = end_items mode
 items_of rows mode (word ∷ words) = word_items rows mode (string_bytes word)

@@ -17,7 +17,7 @@ are_right_operands table items =
     && has_file items && is_read_once table.rows.now items
 
 -- an item of a command line is no word that stands for one that is not UTF-8, unless as a FILE that does not begin with
--- `-` (45) behind the NUL
+-- `-` (45) after the NUL
 abbrev pub is_taken : Item → Bool
 is_taken (says.File name) = not (begins (0 ∷ 45 ∷ []) name)
 is_taken (says.Value row value) = not (is_stand_in value)

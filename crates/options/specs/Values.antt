@@ -45,6 +45,8 @@ is_right kinds.Nth value = bytes_eq value (codes "first") || bytes_eq value (cod
 is_right kinds.Separator value = is_separator value
 is_right kinds.Rule value = bytes_eq value (codes "drop") || bytes_eq value (codes "keep")
     || bytes_eq value (codes "stop") || bytes_eq value (codes "report")
+is_right kinds.Form value = bytes_eq value (codes "csv") || bytes_eq value (codes "ipset")
+    || bytes_eq value (codes "nft")
 is_right kinds.Lengths value = is_some (lengths_in value)
 
 -- the number that the text is, where a number of more than 64 bits counts as the greatest of 64 bits

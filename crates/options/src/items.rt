@@ -72,7 +72,7 @@ pub enum Item<'a> {
     Lacks(usize),
 }
 
-/// Where a word stands.
+/// Where a word is.
 ///
 /// ```
 /// use options::items::Mode;
@@ -81,10 +81,10 @@ pub enum Item<'a> {
 /// ```
 #[derive(Clone, Copy, Debug, PartialEq, Eq)]
 pub enum Mode {
-    /// Where an option, a FILE or `--` may stand.
+    /// Where an option, a FILE or `--` may be.
     Free,
-    /// Where the value of the option of this row stands.
+    /// Where the value of the option of this row is.
     Value(usize),
-    /// After `--`, where only a FILE may stand.
+    /// After `--`, where only a FILE may be.
     Files,
 }

@@ -43,7 +43,7 @@ pub fn refuse<E: Write>(
     FAILED
 }
 
-// Writes the subject of a fault, as it stands before the problem.
+// Writes the subject of a fault, as it is before the problem.
 fn tell_subject<E: Write>(rows: &[Row], subject: &Subject<'_>, errors: &mut Output<'_, E>) {
     match subject {
         Subject::CommandLine => {}

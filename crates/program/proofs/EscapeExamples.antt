@@ -22,7 +22,7 @@ pub each_byte_of_a_line : map (λ (byte : ℕ). escaped (byte ∷ [])) (from 0 2
     ++ map coded (from 127 129)
 each_byte_of_a_line = refl
 
--- of the characters just before, in and just behind each run of hidden ones, those in it are escaped, in a line as in a
+-- of the characters just before, in and just after each run of hidden ones, those in it are escaped, in a line as in a
 -- word
 abbrev run_of : ℕ → ℕ → List (List ℕ)
 run_of first count = map encode_utf8 (from first count)

@@ -20,7 +20,7 @@ a_read_fails = refl
 pub no_memory : end_of (Err (unread.Run faults.Read)) 1 true ≡ Err OutOfMemory
 no_memory = refl
 
--- a list that is cut is told so, unless there was no memory
+-- a list that is cut is reported so, unless there was no memory
 pub a_list_is_cut : (end_of (Err unread.Cut) 1 false ≡ Err (Cut 1)) × (end_of (Err unread.Cut) 1 true ≡ Err OutOfMemory)
 a_list_is_cut = (refl, refl)
 
@@ -41,7 +41,7 @@ pub a_read_that_fails_at_once : (known : KnownLists) (name : List ℕ) (before :
 a_read_that_fails_at_once known name before opened fails memory =
     (refl, inl fails, at_list before 1, (opened, λ input e. ([], lines input, refl, refl)), memory, refl)
 
--- a list that is known to have a line, and of which no read fails, is not told as one that cannot be read
+-- a list that is known to have a line, and of which no read fails, is not reported as one that cannot be read
 pub what_fails : (known : KnownLists) (name : List ℕ) (before : ReadLists) (refused : Refused)
     → known.bytes_of name ≡ Some (codes "::1\n") → (known.may_fail name → ⊥)
     → StopsAt known 1 name before (Read 1) refused → ⊥
@@ -66,7 +66,7 @@ pub memory_for_a_text : (number : ℕ) (text : List ℕ) (before : ReadLists) (r
     → TakesLines (at_list before number) (lines text) stops.0 × (stops.0.is_out_of_memory ≡ true)
 memory_for_a_text number text before refused stops = (stops.1, stops.2)
 
--- ---- what is told of a command line
+-- ---- what is reported of a command line
 
 pub words_as_they_are_shown : map shown ([] ∷ codes "-x" ∷ (27 ∷ codes "[2J" ++ 194 ∷ 155 ∷ []) ∷ [])
     ≡ codes "''" ∷ codes "-x" ∷ codes "\\x1b[2J\\xc2\\x9b" ∷ []

@@ -1,6 +1,5 @@
 pub mod EscapeExamples
 pub mod Examples
-pub mod HandedLines
 pub mod Known
 pub mod LogLines
 pub mod LogNames
@@ -9,6 +8,7 @@ pub mod LogStops
 pub mod PartExamples
 pub mod Puts
 pub mod Reported
+pub mod ReturnedLines
 pub mod Runs
 pub mod WholeLines
 pub mod Words

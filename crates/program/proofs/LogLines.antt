@@ -5,7 +5,7 @@ parts_cons : (a b : List ℕ) → lines_in (a ∷ slice_split (λ x. x == 10) b)
     ∷ lines_in (slice_split (λ x. x == 10) b)
 parts_cons a b = let e = (split_cons 10 b).2 in rw e refl
 
--- a line, and the lines behind it
+-- a line, and the lines after it
 pub lines_line : (a b : List ℕ) → HasNo 10 a → log_lines (a ++ 10 ∷ b) ≡ ended a ∷ log_lines b
 lines_line a b h = ap lines_in (split_at 10 a b refl h) ∙ parts_cons a b
 

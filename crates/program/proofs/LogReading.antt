@@ -4,7 +4,7 @@ use Rattle.std.proofs.Common.{if◌then◌else◌}
 use Rattle.std.specs.Prelude.{slice_index}
 use Rattle.std.specs.List.{filter}
 use Rattle.lines.specs.declared.line_buffer.NextLine.TheVariants as handed
-use Rattle.program.proofs.HandedLines.{printed_is, IsFirstOf, handed_first}
+use Rattle.program.proofs.ReturnedLines.{printed_is, IsFirstOf, handed_first}
 use Rattle.program.proofs.LogLines.{lines_last, rest_unended, some_bytes}
 
 pub failed_now : (new old : Bool) → new ≡ (old || true) → IsTrue new
@@ -100,7 +100,7 @@ begins reader remained all limit h going = record {
   ended = λ e. refl;
 }
 
--- ---- a line is handed out
+-- ---- a line is returned
 
 module _ (was now : OpenLog) (remained remains : Option (List ℕ)) (first : List LogLine)
     (s : HandsFirst was remained remains first) (room : now.room ≡ was.room)

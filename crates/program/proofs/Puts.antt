@@ -48,7 +48,7 @@ module _ {W T E : Type 0} where
         (begins_within old.holds new.holds (old.waits ++ first) second h);
   }
 
-  -- or at one behind some of all
+  -- or at one after some of all
   pub fails_all : (result : Result T E) (old mid new : Written W) (all : List ℕ) → is_err result ≡ true
       → mid.failed ≡ old.failed → new.failed ≡ (mid.failed || true)
       → FailsIn old new all → PutsOrFails result old new all

@@ -1,4 +1,4 @@
--- What is told, one text after the other.
+-- What is reported, one text after the other.
 use Rattle.program.proofs.Words.{◌≡◌, ◌<◌, ◌≤◌, ℕ, zero, suc, Bool, true, false, List, [], ◌∷◌, ◌++◌, refl, sym, subst, arith, length, get_or, IsTrue, IsFalse, String, string_bytes, Written, AppendsBeginning, FailsIn, puts_more, puts_nothing, begins_within, begins_after_puts, Reports, name_at, true≢false, ◌∙◌, append_assoc, Appends-nil}
 
 -- a writer that had failed before has still failed
@@ -25,7 +25,7 @@ cut_in {W} old mid new first second p q fails true e =
 cut_in old mid new first second p q fails false e =
     begins_after_puts old.holds mid.holds new.holds old.waits mid.waits first second (p.told e) (q.cut fails)
 
--- both texts were told, one after the other
+-- both texts were reported, one after the other
 pub tells_more : {W : Type 0} (old mid new : Written W) (first second : List ℕ)
     → Reports old mid first → Reports mid new second → Reports old new (first ++ second)
 tells_more old mid new first second p q = record {

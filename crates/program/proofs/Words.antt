@@ -1,6 +1,6 @@
 -- The words of this crate and of those below, passed on from one place.
 pub use Rattle.lines.proofs.BytesLemmas.{HasNo, HasNo-push, split_at, split_cons, split_none, strip_length}
-pub use Rattle.lines.proofs.HandingOut.{has_no}
+pub use Rattle.lines.proofs.ReturnedLines.{has_no}
 pub use Rattle.lines.proofs.Lines.{newline_cases}
 pub use Rattle.lines.proofs.Putting.{begins_after_puts, begins_within, puts_more, puts_nothing, puts_out}
 pub use Rattle.lines.proofs.Writes.{still_works}

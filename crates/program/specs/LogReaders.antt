@@ -14,18 +14,18 @@ use Rattle.program.specs.declared.log_reader.NextLogLine.TheVariants.{Line, TooL
 
 -- a log while it is read
 pub record OpenLog : Type 0 where
-  -- the bytes that were read and not yet handed out, and the line that was handed out last
+  -- the bytes that were read and not yet returned, and the line that was returned last
   pub buffered : Buffered
   -- how many more bytes may be read
   pub room : ℕ
   -- a line that is too long is reported before its end was read
   pub hurries : Bool
 
--- the line that was handed out last, without the bytes that end it
+-- the line that was returned last, without the bytes that end it
 abbrev pub line_of : OpenLog → List ℕ
 line_of reader = reader.buffered.line
 
--- the line that was handed out last, with the bytes that end it
+-- the line that was returned last, with the bytes that end it
 abbrev pub whole_of : OpenLog → List ℕ
 whole_of reader = reader.buffered.whole
 
@@ -35,7 +35,7 @@ abbrev pub AreFirst : Bool → List ℕ → List LogLine → List ℕ → Type 0
 AreFirst ended read first pending = (more : List ℕ) → (ended ≡ true → more ≡ [])
     → log_lines (read ++ more) ≡ first ++ log_lines (pending ++ more)
 
--- the reader has handed out the lines `first`: they are the first lines of what was read, and what follows them is
+-- the reader has returned the lines `first`: they are the first lines of what was read, and what follows them is
 -- pending in its buffer
 pub record HandsFirst (reader : OpenLog) (remained remains : Option (List ℕ)) (first : List LogLine) : Type 0 where
   pub read : List ℕ
@@ -56,7 +56,7 @@ pub record ComesNext (remained remains : Option (List ℕ)) (first : List LogLin
   pub lines : log_lines read ≡ first ++ line ∷ others
   pub is_line : IsWhole (IsAtEnd remains) line
 
--- after the lines `first`, the reader handed out one within the limit, which its buffer lends as it was read
+-- after the lines `first`, the reader returned one within the limit, which its buffer lends as it was read
 pub record GivesLine (new : OpenLog) (remained remains : Option (List ℕ)) (first : List LogLine)
     (end : LineEnd) : Type 0 where
   pub next : ComesNext remained remains first (log_line (line_of new) end)
@@ -72,7 +72,7 @@ pub record GivesLong (new : OpenLog) (remained remains : Option (List ℕ)) (fir
   pub long : 1048576 < length (content line)
   pub hands : new.hurries ≡ false → HandsFirst new remained remains (first ++ line ∷ [])
 
--- what `next` hands out after the lines `first`
+-- what `next` returns after the lines `first`
 abbrev pub GivesNext : OpenLog → Option (List ℕ) → Option (List ℕ) → List LogLine → NextLogLine → Type 0
 -- it is a line within the limit
 GivesNext new remained remains first (Line end) = GivesLine new remained remains first end
@@ -83,7 +83,7 @@ GivesNext new remained remains first End = (read : List ℕ) × Consumes remaine
     × (log_lines read ≡ first)
 
 -- what was read, and what was put into the output, if this fault stops the reading of a log after the lines `first`
--- were handed out
+-- were returned
 abbrev pub Breaks : {W : Type 0} → Option (List ℕ) → Option (List ℕ) → Bool → Written W → Written W → List LogLine
     → LogFault → Type 0
 -- a read failed, nothing was put into the output, and `first` are the lines of what was read that have their line feed
@@ -94,7 +94,7 @@ Breaks remained remains read_failed old new first faults.Write = IsTrue new.fail
     × (read : List ℕ) × (others : List LogLine) × Consumes remained remains read × (log_lines read ≡ first ++ others)
 -- this fault does not occur: the reader does not look for addresses
 Breaks remained remains read_failed old new first faults.Address = ⊥
--- this fault does not occur: the reader hands out a line that is too long as such
+-- this fault does not occur: the reader returns a line that is too long as such
 Breaks remained remains read_failed old new first faults.Length = ⊥
 -- more bytes were read than 64 bits count, and `first` are the lines whose line feed is among the bytes before the last
 -- ones (`last`)
@@ -102,7 +102,7 @@ Breaks remained remains read_failed old new first faults.Endless = Prints old ne
     × (read : List ℕ) × (last : List ℕ) × Consumes remained remains (read ++ last)
     × (2 ^ 64 - 1 < length (read ++ last)) × (ended_lines read ≡ first)
 
--- a measure of what is left to read and to hand out: the bytes that may still be read, and the end of the log, each
+-- a measure of what is left to read and to return: the bytes that may still be read, and the end of the log, each
 -- count for more than all lines that the buffer can hold
 abbrev pub left : OpenLog → ℕ
 left reader = (reader.room + (if reader.buffered.ended then 0 else 1)) * (length reader.buffered.bytes + 2) + work

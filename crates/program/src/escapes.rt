@@ -97,7 +97,7 @@ fn shown_width(keeps_tabs: bool, bytes: &[u8]) -> usize
     if hidden { 0 } else { width(bytes) }
 }
 
-// Returns a byte of some, or 0 behind their end.
+// Returns a byte of some, or 0 after their end.
 fn byte_at(bytes: &[u8], at: usize) -> u8
     ensures { result ≡ slice_index bytes.now at }
 {

@@ -2,12 +2,13 @@
 use crate::command_line::text_at;
 use crate::escapes::tell_escaped;
 use crate::messages::{tell, tell_head, tell_number, tell_of};
+use crate::usage::tell_shown;
 use ipnetwork::IpNetwork;
 use lines::output::Output;
-use lists::{Excerpt, ReadFault, Refusal, Refusals, meant};
+use lists::{Excerpt, ReadFault, Refusal, Refusals, meant, would_take_masks};
 use std::io::Write;
 
-/// Says where refused lines stand, in terms of the words of a command line.
+/// Says where refused lines are, in terms of the words of a command line.
 ///
 /// ```
 /// use lists::{LineFault, Refusal};
@@ -86,6 +87,12 @@ fn tell_refusal<P: Places, E: Write>(
     if !text.is_cut() {
         tell_meant(meant(refusal.fault, text.bytes()), errors);
     }
+    if would_take_masks(refusal.fault, text) {
+        tell(
+            " (--masks takes a mask or wildcard after an address)",
+            errors,
+        );
+    }
     tell("\n", errors);
 }
 
@@ -131,17 +138,19 @@ pub fn tell_more<E: Write>(program: &str, more: u64, errors: &mut Output<'_, E>)
     }
 }
 
-/// Reports in the name of a program why lists were not read to the end.
+/// Reports in the name of a program why lists were not read to the end; `fields` are the names of
+/// fields of documents.
 ///
 /// ```
 /// let mut slice = [0; 64];
 /// let mut errors = lines::output::Output::new(Vec::new(rt.alloc()), &mut slice);
-/// program::telling::tell_fault("sum", &[], lists::ReadFault::OutOfMemory, &mut errors);
+/// program::telling::tell_fault("sum", &[], &[], lists::ReadFault::OutOfMemory, &mut errors);
 /// assert_eq!(rt; errors.finish(), Ok(()));
 /// ```
 pub fn tell_fault<E: Write>(
     program: &str,
     words: &[String],
+    fields: &[String],
     fault: ReadFault,
     errors: &mut Output<'_, E>,
 ) {
@@ -176,9 +185,11 @@ pub fn tell_fault<E: Write>(
                 errors,
             );
         }
-        ReadFault::NoField(place) => {
+        ReadFault::NoField(place, field) => {
             tell_list(program, words, place, errors);
-            tell(": no field of a name that is given\n", errors);
+            tell(": no field ", errors);
+            tell_shown(text_at(fields, field).as_bytes(), errors);
+            tell("\n", errors);
         }
         ReadFault::OutOfMemory => tell_of(program, ": out of memory\n", errors),
     }

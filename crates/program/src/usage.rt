@@ -11,7 +11,7 @@ use lines::output::Output;
 use std::io::Write;
 
 /// Writes a word as messages show it: an empty word as `''`, any other with what
-/// `tell_escaped_word` escapes, without the NUL of one that `is_stand_in` tells.
+/// `tell_escaped_word` escapes, without the NUL of a word for which `is_stand_in` is true.
 ///
 /// ```
 /// let (mut slice, mut room) = ([0; 16], [0; 2]);

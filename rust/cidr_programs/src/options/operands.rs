@@ -53,9 +53,9 @@ pub fn operands_fault<'a>(table: &Table<'_>, items: &[Item<'a>]) -> Option<Fault
     ))
 }
 
-/// Returns whether each word that stands for one that is not UTF-8 is a FILE, and the word for
-/// which it stands does not begin with `-`. So no option and no value is such a word. It is false
-/// if memory runs out.
+/// Returns whether each word that stands for one that is not UTF-8 is a FILE, and the word that it
+/// stands for does not begin with `-`. So no option and no value is such a word. It is false if
+/// memory runs out.
 ///
 /// ```
 /// # use cidr_programs::in_examples::*;

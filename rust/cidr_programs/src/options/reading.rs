@@ -46,7 +46,7 @@ pub fn items_of<'a>(
     Ok(all)
 }
 
-// Appends the items of a word, and returns where the next word stands.
+// Appends the items of a word, and returns where the next word is.
 fn put_word<'a>(
     rows: &[Row],
     mode: Mode,
@@ -66,8 +66,8 @@ fn put_word<'a>(
     }
 }
 
-// Appends the items of a word that stands where an option may, and returns where the next word
-// stands.
+// Appends the items of a word where an option may be, and returns where the next word
+// is.
 fn put_free<'a>(rows: &[Row], word: &'a str, all: &mut Vec<Item<'a>>) -> Result<Mode, AllocError> {
     if is_plain(word) {
         all.push(Item::File(Text::new(word)))?;
@@ -81,7 +81,7 @@ fn put_free<'a>(rows: &[Row], word: &'a str, all: &mut Vec<Item<'a>>) -> Result<
     }
 }
 
-/// Whether a word, where an option may stand, is a FILE: it is `-`, or does not begin with `-`.
+/// Whether a word, where an option may be, is a FILE: it is `-`, or does not begin with `-`.
 ///
 /// ```
 /// # use cidr_programs::in_examples::*;

@@ -30,6 +30,8 @@ pub enum Kind {
     Separator,
     /// `drop`, `keep`, `stop` or `report`.
     Rule,
+    /// `csv`, `ipset` or `nft`, a form of lists.
+    Form,
     /// Two prefix lengths with a comma between them: the first is at most 32, the second at most
     /// 128.
     Lengths,

@@ -18,6 +18,7 @@ pub(crate) fn is_right(kind: Kind, value: &str) -> bool {
         }
         Kind::Separator => is_separator(value.as_bytes()),
         Kind::Rule => { value == "drop" || value == "keep" || value == "stop" || value == "report" }
+        Kind::Form => value == "csv" || value == "ipset" || value == "nft",
         Kind::Lengths => lengths_in(value).is_some(),
     }
 }

@@ -51,9 +51,9 @@ impl ArgumentsFault {
 const ARGUMENT_MAX: usize = 1 << 21;
 
 /// Returns the arguments after the program's name, in their order. Each is a `String` of its own,
-/// in memory of the program's allocator. For one that is not UTF-8 a word stands that
-/// `is_stand_in` tells from all others: NUL, and the argument with each byte that is not part of a
-/// character as `\xff`. No file can be opened by it.
+/// in memory of the program's allocator. An argument that is not UTF-8 is replaced with a word for
+/// which `is_stand_in` is true: NUL, and the argument with each byte that is not part of a
+/// character as `\xff`. No file can be opened by that word.
 ///
 /// An error is returned if memory runs out, or if an argument is not UTF-8 and one has more than
 /// 2,097,152 bytes.

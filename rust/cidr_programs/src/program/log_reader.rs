@@ -13,7 +13,7 @@ use fosibegan_core::plain_std::io::{Read, Write};
 /// The most bytes of a line, not counting its line end.
 pub const LINE_MAX: usize = 1_048_576;
 
-/// The number of bytes of a buffer: those of the longest line, and room for what is read beside it.
+/// The number of bytes of a buffer: those of the longest line, and room for what is read with it.
 pub const BUFFER_LEN: usize = LINE_MAX + 2 + 262_144;
 
 /// What comes next in a log.
@@ -46,7 +46,7 @@ pub enum NextLogLine {
 
 /// Reads the lines of a log.
 ///
-/// `next` hands out one line after another, each where it stands in the buffer. Before it asks the
+/// `next` returns one line after another, each where it is in the buffer. Before it asks the
 /// device for more bytes, and at the end of the log, it writes what waits in an output: whatever is
 /// written for the lines of one read reaches the writer before the next read.
 ///
@@ -92,7 +92,7 @@ impl<'b> LogReader<'b> {
         }
     }
 
-    /// Returns the line that `next` handed out last, without the bytes that end it.
+    /// Returns the line that `next` returned last, without the bytes that end it.
     ///
     /// ```
     /// # use cidr_programs::in_examples::*;
@@ -109,7 +109,7 @@ impl<'b> LogReader<'b> {
         self.lines.line()
     }
 
-    /// Returns the line that `next` handed out last, with the bytes that end it.
+    /// Returns the line that `next` returned last, with the bytes that end it.
     ///
     /// ```
     /// # use cidr_programs::in_examples::*;
@@ -126,7 +126,7 @@ impl<'b> LogReader<'b> {
         self.lines.whole_line()
     }
 
-    /// Hands out the next line, or says that there is none. What waits in the output is written
+    /// Returns the next line, or says that there is none. What waits in the output is written
     /// before the device is asked for more bytes, and at the end of the log.
     ///
     /// An error is returned if a read or a write failed, now or earlier (`LogFault::Read`,

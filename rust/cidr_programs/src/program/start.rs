@@ -47,9 +47,9 @@ where
     start_on_files(rt, program, usage, |_words| false, run)
 }
 
-/// Runs a program as `start` does, also on words that stand for others that are not UTF-8, as
-/// `is_stand_in` tells them, if `takes` says of the words that they may stand there. No file opens
-/// by such a word, and messages show the word for which it stands, escaped.
+/// Runs a program as `start` does, also on words that stand for others that are not UTF-8, those
+/// for which `is_stand_in` is true, if `takes` returns true for the words. No file can be opened by
+/// such a word, and messages show, escaped, the word that it stands for.
 #[doc(hidden)]
 pub fn start_on_files<G, F>(
     rt: &HostRuntime,

@@ -6,12 +6,13 @@ use fosibegan_core::plain_std::string::String;
 use crate::program::command_line::text_at;
 use crate::program::escapes::tell_escaped;
 use crate::program::messages::{tell, tell_head, tell_number, tell_of};
+use crate::program::usage::tell_shown;
 use fosibegan_core::ipnetwork::IpNetwork;
 use crate::lines::output::Output;
-use crate::lists::{Excerpt, ReadFault, Refusal, Refusals, meant};
+use crate::lists::{Excerpt, ReadFault, Refusal, Refusals, meant, would_take_masks};
 use fosibegan_core::plain_std::io::Write;
 
-/// Says where refused lines stand, in terms of the words of a command line.
+/// Says where refused lines are, in terms of the words of a command line.
 ///
 /// ```
 /// # use cidr_programs::in_examples::*;
@@ -93,6 +94,12 @@ fn tell_refusal<P: Places, E: Write>(
     if !text.is_cut() {
         tell_meant(meant(refusal.fault, text.bytes()), errors);
     }
+    if would_take_masks(refusal.fault, text) {
+        tell(
+            " (--masks takes a mask or wildcard after an address)",
+            errors,
+        );
+    }
     tell("\n", errors);
 }
 
@@ -139,18 +146,20 @@ pub fn tell_more<E: Write>(program: &str, more: u64, errors: &mut Output<'_, E>)
     }
 }
 
-/// Reports in the name of a program why lists were not read to the end.
+/// Reports in the name of a program why lists were not read to the end; `fields` are the names of
+/// fields of documents.
 ///
 /// ```
 /// # use cidr_programs::in_examples::*;
 /// let mut slice = [0; 64];
 /// let mut errors = cidr_programs::lines::output::Output::new(Vec::new(Global), &mut slice);
-/// cidr_programs::program::telling::tell_fault("sum", &[], cidr_programs::lists::ReadFault::OutOfMemory, &mut errors);
+/// cidr_programs::program::telling::tell_fault("sum", &[], &[], cidr_programs::lists::ReadFault::OutOfMemory, &mut errors);
 /// assert_eq!(errors.finish(), Ok(()));
 /// ```
 pub fn tell_fault<E: Write>(
     program: &str,
     words: &[String],
+    fields: &[String],
     fault: ReadFault,
     errors: &mut Output<'_, E>,
 ) {
@@ -185,9 +194,11 @@ pub fn tell_fault<E: Write>(
                 errors,
             );
         }
-        ReadFault::NoField(place) => {
+        ReadFault::NoField(place, field) => {
             tell_list(program, words, place, errors);
-            tell(": no field of a name that is given\n", errors);
+            tell(": no field ", errors);
+            tell_shown(text_at(fields, field).as_bytes(), errors);
+            tell("\n", errors);
         }
         ReadFault::OutOfMemory => tell_of(program, ": out of memory\n", errors),
     }

@@ -11,7 +11,7 @@ use crate::lines::output::Output;
 use fosibegan_core::plain_std::io::Write;
 
 /// Writes a word as messages show it: an empty word as `''`, any other with what
-/// `tell_escaped_word` escapes, without the NUL of one that `is_stand_in` tells.
+/// `tell_escaped_word` escapes, without the NUL of a word for which `is_stand_in` is true.
 ///
 /// ```
 /// # use cidr_programs::in_examples::*;

@@ -4,7 +4,7 @@ use Rattle.options.specs.declared.items.Item.TheVariants as says
 use Rattle.options.specs.declared.items.Mode.TheVariants as modes
 use Rattle.options.proofs.reading.put_letters.Goals as goal
 
--- behind the letters stands no character of ASCII
+-- after the letters comes no character of ASCII
 module _ (rows : List Row) (first : Bool) (word : List ℕ) where
   stuck : (text : List ℕ) → ((letter : ℕ) (rest : List ℕ) → letter < 128 → text ≢ letter ∷ rest)
       → (length text == 0) ≡ false

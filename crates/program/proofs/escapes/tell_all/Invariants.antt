@@ -1,7 +1,7 @@
 use Rattle.program.proofs.Known.{◌≡◌, ◌≤◌, ◌-◌, ℕ, List, ◌++◌, drop, length, escaped_behind, Reports}
 use Rattle.program.proofs.escapes.tell_all.Given as goal
 
--- what was told, and what is told of the bytes that are left, is all
+-- what was reported, and what is reported of the bytes that are left, is all
 abbrev pub invariant-loop-at : goal.invariant-loop-at
 invariant-loop-at g l = (l.at ≤ length l.bytes)
     × ((told : List ℕ) × Reports l.initial.output l.output told

@@ -1,4 +1,4 @@
--- What a `LineBuffer` hands out is a line of the log.
+-- What a `LineBuffer` returns is a line of the log.
 use Rattle.program.proofs.Words.{◌≡◌, ℕ, ◌-◌, ◌≤◌, ◌==◌, ◌⊎◌, inl, inr, Bool, true, false, cond, slice_index, List, [], ◌∷◌, ◌++◌, length, take, refl, sym, ap, subst, ◌∙◌, arith, append_assoc, append-nil, length-append, length-take, ne_eqb, nil_from_length, lines, strip_carriage_return, Buffered, IsFirstLine, HandsOut, end_bytes, LineEnd, LineFeed, ReturnAndLineFeed, EndOfInput, HasNo, HasNo-push, newline_cases, LogLine, log_lines, content, printed, feed_behind, ended, unended, log_line}
 use Rattle.lines.proofs.Lines as engine
 use Rattle.program.proofs.LogLines.{lines_line, lines_last}
