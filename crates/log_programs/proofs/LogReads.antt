@@ -29,7 +29,7 @@ long_next log (Some all) (Some rest) first h bytes is =
     subst (λ (b : List ℕ). LongBehind first (log_lines b)) (sym (same_some bytes all (Some all) is refl ∙ h.next.reads))
     (long_stays h.next.read rest first h.next.others h.line h.next.lines h.next.is_line h.long)
 
--- all of them were handed out
+-- all of them were returned
 all_lines : (remained remains : Option (List ℕ)) (read : List ℕ) (first : List LogLine) (bytes : List ℕ)
     → Consumes remained remains read → IsAtEnd remains → log_lines read ≡ first → remained ≡ Some bytes
     → log_lines bytes ≡ first ++ []

@@ -9,6 +9,7 @@ pub use Rattle.lines.proofs.Putting.{begins_after_puts, puts_more, puts_nothing}
 pub use Rattle.lines.specs.Outputs.{FailsIn, Prints, Written}
 pub use Rattle.lines.specs.declared.line_end.LineEnd.{LineEnd}
 pub use Rattle.lists.specs.KnownLists.{KnownLists}
+pub use Rattle.log_programs.specs.ByteOrderMarks.{judged}
 pub use Rattle.log_programs.specs.InTurn.{GoesOn, InTurn}
 pub use Rattle.log_programs.specs.LogReads.{Cuts, OfLine, PrintsLog, PrintsSoFar, Put, ReadsLog, ReadsSoFar, StopsLine, TakesLine, end_of, is_cut}
 pub use Rattle.log_programs.specs.LogsInTurn.{EndsLogs, FailsAt, Finishes, LogsSoFar, StopsLog, TakesLog}

@@ -5,7 +5,7 @@ use Rattle.std.specs.Prelude.{◌≡◌, ◌⊎◌, Bool, true, false, List, [],
 abbrev pub Ends : {S X : Type 0} → Option S → List X → Option S → Type 0
 Ends is output end = (output ≡ []) × (end ≡ is)
 
--- what is given for items that are taken in turn, and the state behind them, or `None` if one ends the run; those
+-- what is given for items that are taken in turn, and the state after them, or `None` if one ends the run; those
 -- before them left `state`. `Gives` says what one item gives and leaves. None is looked at in a state that is full. If
 -- a device failed (`cut`), the run may end before any item
 abbrev pub InTurn : {S I X : Type 0} → (S → Bool) → (S → I → List X → Option S → Type 0) → Bool → S → List I → List X

@@ -1,4 +1,5 @@
 -- What the contracts of this crate cite.
+pub mod ByteOrderMarks
 pub mod Finding
 pub mod InTurn
 pub mod LogReads

@@ -15,7 +15,7 @@ is_cut (Err faults.Write) = true
 is_cut (Err faults.Endless) = true
 is_cut _ = false
 
--- the state behind a log that did not end the run
+-- the state after a log that did not end the run
 abbrev pub end_of : {T S : Type 0} → Result T LogFault → S → Option S
 end_of (Ok done) state = Some state
 end_of (Err fault) state = None
@@ -52,7 +52,7 @@ pub record PrintsLog {S T W : Type 0} (is_full : S → Bool) (Of : S → List �
   pub put : Put result old new added
   pub reads : ReadsLog is_full Of start result remained read_failed added state
 
--- the lines that were handed out gave this, whatever comes
+-- the lines that were returned gave this, whatever comes
 pub record ReadsSoFar {S X : Type 0} (is_full : S → Bool) (Of : S → List ℕ → List ℕ → List X → Option S → Type 0)
     (start : S) (log : OpenLog) (remained remains : Option (List ℕ)) (added : List X) (state : S) : Type 0 where
   pub first : List LogLine
@@ -60,7 +60,7 @@ pub record ReadsSoFar {S X : Type 0} (is_full : S → Bool) (Of : S → List ℕ
   pub goes_on : (cut : Bool) (lines : List LogLine)
       → GoesOn is_full (OfLine Of) cut start (first ++ lines) added state lines
 
--- the lines that were handed out gave this, and it was put into the output
+-- the lines that were returned gave this, and it was put into the output
 pub record PrintsSoFar {S W : Type 0} (is_full : S → Bool) (Of : S → List ℕ → List ℕ → List ℕ → Option S → Type 0)
     (start : S) (log : OpenLog) (remained remains : Option (List ℕ)) (old new : Written W) (state : S) : Type 0 where
   pub added : List ℕ

@@ -37,7 +37,7 @@ pub record StopsLog {S W : Type 0} (Gives : Bool → S → List ℕ → List ℕ
   pub fails : cut ≡ true → FailsAt known name new
 
 -- the logs of a run were taken, from the state `start` on: if no device failed (`cut`), what they give was written, and
--- the exit status is that of the state behind them, or of none if a line ended the run; else what a beginning of them
+-- the exit status is that of the state after them, or of none if a line ended the run; else what a beginning of them
 -- gives, or a beginning of that, and the exit status is 2
 pub record EndsLogs {S W : Type 0} (is_full : S → Bool) (Gives : Bool → S → List ℕ → List ℕ → Option S → Type 0)
     (status : Option S → ℕ) (start : S) (known : KnownLists) (names : List (List ℕ)) (old new : Written W)

@@ -35,9 +35,9 @@ shared =
     ∷ long (codes "--after") kinds.Text true ∷ long_flag (codes "--mapped") ∷ valued (codes "f") kinds.File
     ∷ alone (codes "--help") ∷ alone (codes "--version") ∷ long (codes "--nth") kinds.Nth true ∷ []
 
--- the last row, behind those of a program: `--quiet` as the first word is taken off before the options are read, so
+-- the last row, after those of a program: `--quiet` as the first word is taken off before the options are read, so
 -- that
--- one that is found stands behind another word
+-- one that is found is after another word
 abbrev pub late_quiet : Entry
 late_quiet = alone (codes "--quiet")
 

@@ -72,7 +72,7 @@ joins_the_halves = record {
   first = tt;
 }
 
--- joins go on until two blocks are left, or one, and no further
+-- blocks are joined until two are left, or one, and no further
 two_are_left : Reduces 32 2 three (net 0 30 ∷ net 4 30 ∷ []) 2
 unfolding three
 two_are_left = record { becomes = Joined Same (omega arith) makes_a_half; done = inl (omega arith) }

@@ -1,10 +1,9 @@
--- Where two blocks lie in the block that they are joined to, and that the pair with the fewest others has no other
--- block
--- in it.
+-- Where two blocks lie in the block that they are joined into, and that no third block lies in it for the pair with the
+-- fewest others.
 use Rattle.reducing.proofs.Words.{◌≡◌, ℕ, suc, ◌+◌, ◌-◌, ◌*◌, ◌/◌, ◌<◌, ◌≤◌, ◌∷◌, [], refl, sym, ap, subst, ◌∙◌, arith, ⊎_elim, pow-le-pow_right, cases_lt, cases_eq, Contains, Network, IsCidrBlock, Member, Subnet, block_size, block_at, low, high, size_pos, div_within, within_block, within_member, has_ends, subnet_from, subnet_prefix, block_same_set, coarser_size, block_at_network, IsSpanning, size_half, contains_cons, contains_nil, contains_head, contains_tail, joined, others}
 use Rattle.reducing.proofs.Shared.{joined_spans}
 
--- the address behind the last one
+-- the address after the last one
 abbrev pub end_of : ℕ → Network → ℕ
 end_of w n = n.address + block_size w n.prefix
 
@@ -16,7 +15,7 @@ inside w n m hn hm sub =
     let to = within_member w m (high w n) (sub (high w n) ends.high_is_member) in
     (omega (arith, from.0, hn.block, hm.block), omega (arith, to.1, hn.block, hm.block, size_pos w n.prefix))
 
--- two blocks in one block of prefix length p are joined to one that is no shorter
+-- two blocks in one block of prefix length p are joined into one that is no shorter
 joined_within : (w p : ℕ) (c d t : Network) → IsCidrBlock w c → IsCidrBlock w d → IsSpanning w (c ∷ d ∷ []) t → p ≤ w
     → p ≤ c.prefix → p ≤ d.prefix
     → c.address / block_size w p ≡ d.address / block_size w p → p ≤ t.prefix
@@ -152,7 +151,7 @@ crowded w p c d h fits pc pd same =
 own_half : (s x : ℕ) → 0 < s → (x / s * s ≤ x) × (x < x / s * s + s)
 own_half s x some = within_block s x x some refl
 
--- the block behind a pair with no more others is not in their block
+-- if a pair has no more others than its second block and the block after it, that block is not in the pair's block
 pub none_behind : (w : ℕ) (a b q : Network) → IsPair w a b (joined w a b) → IsCidrBlock w q → end_of w b ≤ q.address
     → others w a b ≤ others w b q → end_of w (joined w a b) ≤ q.address
 none_behind w a b q h hq order least =

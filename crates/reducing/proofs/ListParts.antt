@@ -143,8 +143,8 @@ between_too w front back n before a b behind is between =
     none.1 in r)
     between
 
--- the pairs before a join in the list behind are those in front, the one between the lists and those before the join
--- there
+-- the pairs before a join in the second list are those of the first list, the one between the lists, and those before
+-- the join in the second list
 before_join : (w : ℕ) (front back : List Network) (k n : ℕ) (before : List Network) (a b : Network)
     (behind : List Network)
     → back ≡ before ++ a ∷ b ∷ behind → IsBetween w front back n → k < n → k < least w front

@@ -1,4 +1,4 @@
--- The block that two networks are joined to.
+-- The block that two networks are joined into.
 use Rattle.reducing.proofs.Words.{◌≡◌, ◌==◌, true, false, ℕ, zero, suc, ◌+◌, ◌-◌, ◌*◌, ◌/◌, ◌^◌, ◌<◌, ◌≤◌, ◌∷◌, [], min, refl, sym, ap, subst, ◌∙◌, arith, ⊎_elim, eqb-true, eqb-false, cases_Bool, cond-true, cond-false, cases_lt, shr-shr, shr_below, shr_high, pow-add, pow_pos, SharesBits, Network, IsNetwork, block_size, block_at, low, has_ends, IsSpanning, spans_both, shared, joined}
 
 -- the halves of numbers of v + 1 bits agree in as many bits of v as the numbers do

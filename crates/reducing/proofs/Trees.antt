@@ -9,7 +9,7 @@ blocks-append pair (n ∷ ns) ys =
     ap (λ u. alone pair n.block ++ u) (blocks-append pair ns ys)
     ∙ sym (append_assoc (alone pair n.block) (blocks pair ns) (blocks pair ys))
 
--- a slice with a root, and what is before and behind it
+-- a slice with a root, and what is before and after it
 pub record IsRooted {X : Type 0} (tree left : List (Node X)) (n : Node X) (right : List (Node X)) : Type 0 where
   pub tree_is : tree ≡ left ++ n ∷ right
   pub middle : length left ≡ length tree / 2

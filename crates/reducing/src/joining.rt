@@ -1,4 +1,4 @@
-//! The block that two blocks are joined to, and what else is in it.
+//! The block that two blocks are joined into, and what else is in it.
 ghost use Rattle.std.specs.Prelude.{◌≡◌, ◌+◌, ◌≤◌, ◌∷◌, []};
 ghost use Rattle.ipnetwork_family.specs.Network.{block_size};
 ghost use Rattle.ipnetwork_blocks.specs.Spanning.{IsSpanning};
@@ -19,8 +19,8 @@ pub fn joined<N: AddressSpace>(first: N, second: N) -> N
     N::block_at(first.network(), joined_prefix(first, second))
 }
 
-/// The number of addresses that the smallest block around two networks has beside theirs. The two
-/// share no address.
+/// The number of addresses of the smallest block around two networks that are in neither of them.
+/// The two share no address.
 ///
 /// ```
 /// let others = others::<Ipv4Network>("10.0.1.0/24".parse()?, "10.0.2.128/25".parse()?);

@@ -1,4 +1,4 @@
-//! What a part of a list tells of itself to what is before and behind it.
+//! What the parts of a list before and after a part need to know of it.
 ghost use Rattle.std.specs.Prelude.{◌≡◌, ◌++◌, [], List, Some};
 ghost use Rattle.ipnetwork_family.specs.Network.{Network};
 ghost use Rattle.reducing.specs.Private.ListParts.{IsSpan, IsBetween, least, no_pair};
@@ -19,7 +19,7 @@ pub(crate) struct Span<N> {
 /// More than any number of others.
 pub(crate) const NO_PAIR: u128 = u128::MAX;
 
-/// The least number of others in the list of this span: `NO_PAIR` for less than two blocks.
+/// The least number of others in the list of this span: `NO_PAIR` for fewer than two blocks.
 pub(crate) fn least<N: AddressSpace>(span: Option<Span<N>>) -> u128
     ensures { (list : List Network) → IsSpan N.WIDTH N.pair list span
         → result ≡ least N.WIDTH list }
@@ -44,8 +44,8 @@ pub(crate) fn alone<N: AddressSpace>(block: Option<N>) -> Option<Span<N>>
     }
 }
 
-/// The number of others of the pair where one list goes on as the other: `NO_PAIR` if one of them
-/// is empty.
+/// The number of others of the pair where one list follows the other: `NO_PAIR` if one of them is
+/// empty.
 pub(crate) fn between<N: AddressSpace>(front: Option<Span<N>>, back: Option<Span<N>>) -> u128
     ensures { (first second : List Network) → IsSpan N.WIDTH N.pair first front
         → IsSpan N.WIDTH N.pair second back → IsBetween N.WIDTH first second result }
@@ -59,7 +59,7 @@ pub(crate) fn between<N: AddressSpace>(front: Option<Span<N>>, back: Option<Span
     }
 }
 
-/// The span of two lists, one behind the other.
+/// The span of two lists, one after the other.
 pub(crate) fn followed<N: AddressSpace>(
     front: Option<Span<N>>,
     back: Option<Span<N>>,

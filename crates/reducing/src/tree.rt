@@ -1,5 +1,5 @@
-//! A slice that is a search tree: its root is in the middle, and the slices before and behind it
-//! are its subtrees.
+//! A slice that is a search tree: its root is in the middle, and the slices before and after it are
+//! its subtrees.
 ghost use Rattle.std.specs.Prelude.{◌≡◌, ◌<◌, ◌++◌, ◌∷◌, [], List, Some};
 ghost use Rattle.ipnetwork_family.specs.Network.{Network};
 ghost use Rattle.reducing.specs.Joining.{joined};
@@ -112,7 +112,7 @@ fn take_from<N: AddressSpace>(
     (take(far, end), None)
 }
 
-// Takes out the last block of a tree and of the block behind it, if there is one.
+// Removes and returns the last block of a list: the blocks of a tree and, if there is one, `block`.
 fn take_end<N: AddressSpace>(left: &mut [Node<N>], block: Option<N>) -> Option<N>
     requires { IsTree N.WIDTH N.pair left.old }
     ensures tree { IsTree N.WIDTH N.pair left.new }
@@ -179,7 +179,7 @@ fn join_parts<N: AddressSpace>(
     }
 }
 
-// The block that two blocks are joined to, if there are two.
+// The block that two blocks are joined into, if there are two.
 fn both<N: AddressSpace>(first: Option<N>, second: Option<N>) -> Option<N>
     ensures { (a b : Network) → alone N.pair first ≡ a ∷ [] → alone N.pair second ≡ b ∷ []
         → alone N.pair result ≡ joined N.WIDTH a b ∷ [] }

@@ -35,7 +35,7 @@ pub record DoMeet (w : ℕ) (front back : List Network) (k : ℕ) : Type 0 where
   pub begins : back ≡ b ∷ behind
   pub others_are : k ≡ others w a b
 
--- the number of others where the first list goes on as the second, if there are neighbours
+-- the number of others of the pair where the second list follows the first, if there is such a pair
 abbrev pub IsBetween : ℕ → List Network → List Network → ℕ → Type 0
 IsBetween w front back k = DoMeet w front back k ⊎ ((k ≡ no_pair) × ((front ≡ []) ⊎ (back ≡ [])))
 

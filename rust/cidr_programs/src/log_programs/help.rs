@@ -3,7 +3,7 @@
 //! What the programs for logs say of the options that they share.
 
 /// What `--help` prints of a program, with the lines of the shared options in their places: what
-/// stands before `-k`, then what stands before `--nth`, and then the rest. Each piece but the first
+/// is before `-k`, then what comes before `--nth`, and then the rest. Each piece but the first
 /// begins with a line feed, and none but the last ends with one.
 ///
 /// ```
@@ -28,7 +28,7 @@ macro_rules! log_help {
             "
     --nth WHICH     use only this one of the addresses found: first, last, or a number from 1 up; -a
                     need not be given
-    --after TEXT    the address is the one that follows the first TEXT in a line directly, or behind
+    --after TEXT    the address is the one that follows the first TEXT in a line directly, or after
                     blanks, quotation marks and [, found as by -a; else the line has none. --nth
                     counts from it on. --after SRC= is not found inside ORIG_SRC=. Not with -a, -k,
                     -d or -w",

@@ -1,6 +1,6 @@
 // Written by scripts/plain out of crates/reducing/src/joining.rt
 
-//! The block that two blocks are joined to, and what else is in it.
+//! The block that two blocks are joined into, and what else is in it.
 
 use fosibegan_core::ipnetwork_blocks::AddressSpace;
 
@@ -18,8 +18,8 @@ pub fn joined<N: AddressSpace>(first: N, second: N) -> N {
     N::block_at(first.network(), joined_prefix(first, second))
 }
 
-/// The number of addresses that the smallest block around two networks has beside theirs. The two
-/// share no address.
+/// The number of addresses of the smallest block around two networks that are in neither of them.
+/// The two share no address.
 ///
 /// ```
 /// # use cidr_programs::in_examples::*;

@@ -19,7 +19,7 @@ pub struct Reduced<N> {
 
 /// Joins blocks of a set until at most `most` blocks are left, or one.
 ///
-/// Each step joins two neighbours to the smallest block that contains both: those that have the
+/// Each step joins two neighbours into the smallest block that contains both: those that have the
 /// fewest other addresses in it, and of several the first. `AllocError` means that memory ran out;
 /// the set is then lost.
 ///

@@ -1,6 +1,6 @@
 // Written by scripts/plain out of crates/reducing/src/span.rt
 
-//! What a part of a list tells of itself to what is before and behind it.
+//! What the parts of a list before and after a part need to know of it.
 
 use crate::reducing::joining::others;
 use fosibegan_core::ipnetwork_blocks::AddressSpace;
@@ -17,7 +17,7 @@ pub(crate) struct Span<N> {
 /// More than any number of others.
 pub(crate) const NO_PAIR: u128 = u128::MAX;
 
-/// The least number of others in the list of this span: `NO_PAIR` for less than two blocks.
+/// The least number of others in the list of this span: `NO_PAIR` for fewer than two blocks.
 pub(crate) fn least<N: AddressSpace>(span: Option<Span<N>>) -> u128 {
     match span {
         Some(span) => span.least,
@@ -37,8 +37,8 @@ pub(crate) fn alone<N: AddressSpace>(block: Option<N>) -> Option<Span<N>> {
     }
 }
 
-/// The number of others of the pair where one list goes on as the other: `NO_PAIR` if one of them
-/// is empty.
+/// The number of others of the pair where one list follows the other: `NO_PAIR` if one of them is
+/// empty.
 pub(crate) fn between<N: AddressSpace>(front: Option<Span<N>>, back: Option<Span<N>>) -> u128 {
     match front {
         Some(front) => match back {
@@ -49,7 +49,7 @@ pub(crate) fn between<N: AddressSpace>(front: Option<Span<N>>, back: Option<Span
     }
 }
 
-/// The span of two lists, one behind the other.
+/// The span of two lists, one after the other.
 pub(crate) fn followed<N: AddressSpace>(
     front: Option<Span<N>>,
     back: Option<Span<N>>,

@@ -1,7 +1,7 @@
 // Written by scripts/plain out of crates/reducing/src/tree.rt
 
-//! A slice that is a search tree: its root is in the middle, and the slices before and behind it
-//! are its subtrees.
+//! A slice that is a search tree: its root is in the middle, and the slices before and after it are
+//! its subtrees.
 
 use crate::reducing::joining::joined;
 use crate::reducing::span::{Span, alone, between, followed, least};
@@ -82,7 +82,7 @@ fn take_from<N: AddressSpace>(
     (take(far, end), None)
 }
 
-// Takes out the last block of a tree and of the block behind it, if there is one.
+// Removes and returns the last block of a list: the blocks of a tree and, if there is one, `block`.
 fn take_end<N: AddressSpace>(left: &mut [Node<N>], block: Option<N>) -> Option<N> {
     if let Some(last) = block {
         return Some(last);
@@ -125,7 +125,7 @@ fn join_parts<N: AddressSpace>(
     }
 }
 
-// The block that two blocks are joined to, if there are two.
+// The block that two blocks are joined into, if there are two.
 fn both<N: AddressSpace>(first: Option<N>, second: Option<N>) -> Option<N> {
     Some(joined(first?, second?))
 }

@@ -1,4 +1,4 @@
--- What the reader of a log hands out.
+-- What the reader of a log returns.
 use Rattle.log_programs.proofs.Words.{◌≡◌, ℕ, List, subst, Option, LogLine, GivesNext, OpenLog, NextLogLine}
 
 -- it is what the match found
