@@ -118,7 +118,7 @@ module _ (w p : ℕ) where
       apart = all_apart blocks is_block (apart w blocks blocks set);
     }
 
--- the pieces of the first block that has any, and then those of the blocks behind it
+-- the pieces of the first block that has any, and then those of the blocks after it
 pub next_at_hand : (w p : ℕ) (before mid after left : List Network) (b : Network)
     → pieces_in w p before ≡ pieces_in w p mid → mid ≡ b ∷ after
     → (b.prefix ≤ p) × (p ≤ w) × (left ≡ subnets_of w b p) → NextPieces w p before after (Some left)

@@ -1,2 +1,5 @@
 pub mod FreeBlocks
+pub mod Hosts
+pub mod Places
 pub mod Private
+pub mod Usage

@@ -12,12 +12,13 @@ pieces w p block = if nat_le block.prefix p && nat_le p w then subnets_of w bloc
 abbrev pub pieces_in : ℕ → ℕ → List Network → List Network
 pieces_in w p blocks = flat_map (pieces w p) blocks
 
--- those of the block at hand, if there is one
+-- those of the current block, if there is one
 abbrev pub at_hand : Option (List Network) → List Network
 at_hand None = []
 at_hand (Some left) = left
 
--- the pieces of the first block that has any are at hand, and `after` are the blocks behind it; or no block has any
+-- the pieces of the first block that has any are those of the current block, and `after` are the blocks after it; or
+-- no block has any
 abbrev pub NextPieces : ℕ → ℕ → List Network → List Network → Option (List Network) → Type 0
 NextPieces w p before after None = (pieces_in w p before ≡ []) × (pieces_in w p after ≡ [])
 NextPieces w p before after (Some left) =
