@@ -1,10 +1,11 @@
 -- Values at which a wrong definition would show. Each of these computes.
-use Rattle.cidr_merge.proofs.Words.{◌≡◌, ◌++◌, ℕ, List, ◌∷◌, [], true, false, refl, map, filter, codes, String, Some, None, is_some, digits, Network, v4_family, InUnion, flat_map, range_with_len, pair_fault, free_items, Row, rows_of, pairs_of, is, lists_of, text_in, IsLeft, IsLeftOfSecond, AreBoth, merged, merged_ranges, block_line, range_line, are_wrong_files, are_wrong_sides, files_among, takes, form_called, form_of, most_in, shape_of, fields_of, prefix_in, entries, pairs, Names, is_set_name, usual_names, before_dashes, behind_dashes, task_called, answer_status, Union, Common, Minus, Differ, Blocks, Ranges, Counts, Exported, Csv, Sets, First, Second, Any, Operation, Request, lenient}
+use Rattle.cidr_merge.proofs.Words.{◌≡◌, ◌++◌, ℕ, List, ◌∷◌, [], true, false, refl, map, filter, codes, String, Some, None, is_some, digits, Network, v4_family, InUnion, flat_map, line_form_called, range_with_len, pair_fault, free_items, Row, rows_of, pairs_of, is, lists_of, text_in, IsLeft, IsLeftOfSecond, AreBoth, merged, merged_ranges, block_line, range_line, are_wrong_files, are_wrong_sides, files_among, takes, form_called, form_of, most_in, shape_of, fields_of, prefix_in, entries, pairs, Names, is_set_name, usual_names, before_dashes, behind_dashes, task_called, answer_status, Union, Common, Minus, Differ, Blocks, Ranges, Counts, Exported, Csv, Sets, First, Second, Any, Operation, Request, lenient}
 use Rattle.options.specs.declared.items.Item.TheVariants as says
 use Rattle.cidr_merge.specs.declared.command_line.Form.{Form}
 use Rattle.cidr_merge.specs.declared.exports.Export.TheVariants as exports
 use Rattle.cidr_merge.specs.declared.shapes.Shape.TheVariants as shapes
 use Rattle.cidr_merge.specs.declared.tasks.Task.TheVariants as tasks
+use Rattle.lists.specs.declared.forms.LineForm.TheVariants as lines
 
 -- a merge of one list on the first side, with no option but that of its form
 abbrev pub plain_merge : Operation → Form → Request
@@ -27,7 +28,7 @@ ten = record { address = 167772160; prefix = 8 }
 
 -- `[` before each line, and `;` after it
 abbrev pub around : Names
-around = record { only = None; table = []; set = []; limit = []; before = codes "["; after = codes ";"; fields = [] }
+around = record { only = None; table = []; set = []; limit = []; before = codes "["; after = codes ";"; fields = []; hosts = [] }
 
 pub block_of_a_union : block_line usual_names Union v4_family
     (record { side = First; part = ten }) ≡ codes "10.0.0.0/8\n"
@@ -154,7 +155,7 @@ pub what_words_say : map (free_items rows) (codes "--skip-bad" ∷ codes "--form
     ∷ (says.File (codes "a") ∷ []) ∷ (says.File [] ∷ []) ∷ []
 what_words_say = refl
 
--- the TEXTs of `-e` are among the FILEs, and can be told from them
+-- the TEXTs of `-e` are among the FILEs, and can be distinguished from them
 pub what_lists : lists_of (flat_map (free_items rows) (codes "a" ∷ codes "-ex" ∷ codes "--json" ∷ codes "-" ∷ []))
     ≡ codes "a" ∷ codes "-e x" ∷ codes "-" ∷ []
 what_lists = refl
@@ -185,16 +186,17 @@ no_files = (refl, refl)
 
 -- the options that each task takes, by their rows: `--prefix` is row 10, `--from` 11, `-e` 12, `--most` 13, `--maxelem`
 -- 14, `--ipv4` 15, `--ipv6` 16, `--max-others` 17, `--allow-empty` 18, `--at-least` 19, `--max-change` 20, `--json-field` 21,
--- `--whole` 22, `--masks` 23, `--all` 24; rows 25 to 27 are `--help`, `--version` and `--quiet`
-pub options_of_tasks : map (λ task. filter (takes task) (range_with_len 0 30)) (tasks.Merge Union ∷ tasks.Merge Differ
+-- `--whole` 22, `--masks` 23, `--all` 24, `-4` 25, `-6` 26, `--read` 27, `--hosts` 28, `--usage` 29; rows 30 to 32 are
+-- `--help`, `--version` and `--quiet`
+pub options_of_tasks : map (λ task. filter (takes task) (range_with_len 0 33)) (tasks.Merge Union ∷ tasks.Merge Differ
     ∷ tasks.List ∷ tasks.Split ∷ tasks.Reduce ∷ tasks.Check ∷ tasks.Overlaps ∷ tasks.Find ∷ tasks.Free ∷ [])
-    ≡ (range_with_len 0 10 ++ 12 ∷ 14 ∷ 18 ∷ 19 ∷ 21 ∷ 22 ∷ 23 ∷ 25 ∷ 26 ∷ [])
-    ∷ (range_with_len 0 10 ++ 12 ∷ 14 ∷ 18 ∷ 19 ∷ 20 ∷ 21 ∷ 22 ∷ 23 ∷ 25 ∷ 26 ∷ [])
-    ∷ (range_with_len 0 10 ++ 12 ∷ 14 ∷ 18 ∷ 19 ∷ 21 ∷ 22 ∷ 23 ∷ 25 ∷ 26 ∷ [])
-    ∷ (3 ∷ 4 ∷ 5 ∷ 8 ∷ 9 ∷ 10 ∷ 12 ∷ 19 ∷ 21 ∷ 22 ∷ 23 ∷ 25 ∷ 26 ∷ [])
-    ∷ (range_with_len 0 10 ++ range_with_len 12 8 ++ 21 ∷ 22 ∷ 23 ∷ 25 ∷ 26 ∷ [])
-    ∷ (5 ∷ 12 ∷ []) ∷ (12 ∷ []) ∷ (11 ∷ 12 ∷ [])
-    ∷ (3 ∷ 4 ∷ 5 ∷ 8 ∷ 9 ∷ 10 ∷ 12 ∷ 18 ∷ 21 ∷ 22 ∷ 23 ∷ 24 ∷ 25 ∷ 26 ∷ []) ∷ []
+    ≡ (range_with_len 0 10 ++ 12 ∷ 14 ∷ 18 ∷ 19 ∷ 21 ∷ 22 ∷ 23 ∷ 25 ∷ 26 ∷ 27 ∷ [])
+    ∷ (range_with_len 0 10 ++ 12 ∷ 14 ∷ 18 ∷ 19 ∷ 20 ∷ 21 ∷ 22 ∷ 23 ∷ 25 ∷ 26 ∷ 27 ∷ [])
+    ∷ (range_with_len 0 10 ++ 12 ∷ 14 ∷ 18 ∷ 19 ∷ 21 ∷ 22 ∷ 23 ∷ 25 ∷ 26 ∷ 27 ∷ [])
+    ∷ (3 ∷ 4 ∷ 5 ∷ 8 ∷ 9 ∷ 10 ∷ 12 ∷ 19 ∷ 21 ∷ 22 ∷ 23 ∷ 25 ∷ 26 ∷ 27 ∷ [])
+    ∷ (range_with_len 0 10 ++ range_with_len 12 8 ++ 21 ∷ 22 ∷ 23 ∷ 25 ∷ 26 ∷ 27 ∷ [])
+    ∷ (5 ∷ 12 ∷ 22 ∷ 23 ∷ 27 ∷ []) ∷ (12 ∷ 22 ∷ 23 ∷ 27 ∷ []) ∷ (11 ∷ 12 ∷ 22 ∷ 23 ∷ 27 ∷ [])
+    ∷ (3 ∷ 4 ∷ 5 ∷ 8 ∷ 9 ∷ 10 ∷ 12 ∷ 18 ∷ range_with_len 21 9) ∷ []
 options_of_tasks = refl
 
 -- of all bytes, those that a set's name may begin with, and those that it may have after its first
@@ -224,11 +226,18 @@ pub usual_form : form_of (Exported Csv) (says.Flag 3 ∷ []) ≡ Exported Csv
 usual_form = refl
 
 pub shapes_said : map shape_of ((says.Flag 4 ∷ []) ∷ (says.Flag 4 ∷ says.Flag 5 ∷ []) ∷ (says.Flag 3 ∷ [])
-    ∷ (says.Flag 5 ∷ []) ∷ (says.Flag 22 ∷ []) ∷ (says.Flag 23 ∷ says.Flag 5 ∷ []) ∷ [])
+    ∷ (says.Flag 5 ∷ []) ∷ (says.Flag 22 ∷ []) ∷ (says.Flag 23 ∷ says.Flag 5 ∷ [])
+    ∷ (says.Value 27 (codes "nft") ∷ []) ∷ [])
     ≡ shapes.Json ∷ shapes.StrictJson ∷ shapes.Lines lenient ∷ shapes.Lines (record lenient { refuses_host_bits = true })
     ∷ shapes.Lines (record lenient { is_whole = true })
-    ∷ shapes.Lines (record { refuses_host_bits = true; is_whole = false; takes_masks = true }) ∷ []
+    ∷ shapes.Lines (record lenient { refuses_host_bits = true; takes_masks = true })
+    ∷ shapes.Lines (record lenient { form = lines.Nft }) ∷ []
 shapes_said = refl
+
+-- three forms are read, by these names
+pub forms_read : map line_form_called (codes "csv" ∷ codes "ipset" ∷ codes "nft" ∷ codes "plain" ∷ codes "json" ∷ codes "NFT"
+    ∷ codes "nft " ∷ [] ∷ []) ≡ Some lines.Csv ∷ Some lines.Ipset ∷ Some lines.Nft ∷ None ∷ None ∷ None ∷ None ∷ None ∷ []
+forms_read = refl
 
 -- the name of a field implies documents
 pub shapes_of_fields : map shape_of ((says.Value 21 (codes "a") ∷ []) ∷ (says.Flag 4 ∷ says.Joined 21 (codes "a")

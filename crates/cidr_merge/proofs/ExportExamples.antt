@@ -36,6 +36,7 @@ blocked = record {
   before = codes "deny ";
   after = codes ";";
   fields = [];
+  hosts = [];
 }
 
 pub sets : (export_text blocked Nft (ten ∷ one ∷ []) []

@@ -16,7 +16,7 @@ abbrev block : IpNetwork
 block = networks.V4 (record { address = 16; prefix = 28 })
 
 -- an entry has all of a network if it has both its ends, be they its own, and lies in it if the network has both of the
--- entry's; others meet if they share an address, the first or the last, and stand apart if they only touch
+-- entry's; others meet if they share an address, the first or the last, and are apart if they only touch
 pub relations :
     map (λ entry. relation_of entry block) (Range (V4 16) (V4 31) ∷ Network block ∷ Range (V4 0) (V4 31)
     ∷ Range (V4 16) (V4 30) ∷ Range (V4 31) (V4 31) ∷ Range (V4 0) (V4 16) ∷ Range (V4 31) (V4 32)

@@ -24,7 +24,7 @@ written_all held mid holds waited waits text p h =
     subst (λ (t : List ℕ). Appends held holds t) (sym p.2)
     (Appends-trans held mid holds p.0 waits p.1 h)
 
--- the writer failed while the text was told, or after that
+-- the writer failed while the text was reported, or after that
 begins_told : {W : Type 0} (old mid new : Written W) (text : List ℕ) → Reports old mid text
     → AppendsBeginning mid.holds new.holds mid.waits → (IsTrue mid.failed → new ≡ mid) → (failed : Bool)
     → mid.failed ≡ failed → FailsIn old new text

@@ -6,7 +6,7 @@ use Rattle.lists.specs.declared.entry.Entry.TheVariants as entries
 abbrev meets : Entry → Sought → Bool
 meets entry one = do_meet (ends_of entry) (ends_of (entries.Network one.network))
 
--- between the places up to one and those from the next on stands no place of a network that the entry meets
+-- no place of a network that the entry meets is between the places up to one and those from the next on
 pub passed_over : (entry : Entry) (sought : List Sought) (places : List ℕ) (at i j : ℕ)
     → AreFound entry sought places → ((k d : ℕ) → k < at → get_or places k d < i)
     → ((k d : ℕ) → at ≤ k → k < length places → j ≤ get_or places k d)

@@ -1,16 +1,16 @@
 -- What a line says can be computed.
-use Rattle.cidr_merge.proofs.Words.{◌≡◌, ◌≢◌, ◌↔◌, ◌∙◌, ◌<◌, ◌≤◌, ℕ, Bool, true, false, List, [], ◌∷◌, length, refl, sym, ap, subst, arith, inl, inr, nat_lt, nat_le, if◌then◌else◌, Option, None, Some, Result, Ok, Err, before_first, after_first, position_or_len, lt-ltb, ltb-true, le-leb, leb-true, ip_of, answer_from, NamesIp, Reads, AddrParseError, Ip, IpAddr, V4, V6, slashes, before_slash, CidrFault, ip_network_of, NamesIpNetwork, ReadsIpNetwork, IpNetwork, comment_text, entry_text, is_dash, is_ok, HasDash, IsEntryCause, IsPlainCause, IsRange, IsRefusedFor, NamesEntry, NamesNone, NamesSome, ReadsEntry, trimmed, Entry, Range, EntryFault, address_or_prefix, as_said, entry_or_none, is_range, network_entry, network_fault, range_between, reading_of, plain_entry, said_by, some_entry, text_entry, told_entry}
+use Rattle.cidr_merge.proofs.Words.{◌≡◌, ◌≢◌, ◌↔◌, ◌∙◌, ◌<◌, ◌≤◌, ℕ, Bool, true, false, List, [], ◌∷◌, length, refl, sym, ap, subst, arith, inl, inr, nat_lt, nat_le, if◌then◌else◌, Option, None, Some, Result, Ok, Err, before_first, after_first, position_or_len, lt-ltb, ltb-true, le-leb, leb-true, ip_of, answer_from, NamesIp, Reads, AddrParseError, Ip, IpAddr, V4, V6, slashes, before_slash, CidrFault, ip_network_of, NamesIpNetwork, ReadsIpNetwork, IpNetwork, comment_text, entry_text, is_dash, is_ok, HasDash, IsEntryCause, IsPlainCause, IsRange, IsRefusedFor, NamesEntry, NamesNone, NamesSome, ReadsEntry, trimmed, Entry, Range, EntryFault, address_or_prefix, as_said, entry_or_none, is_range, network_entry, network_fault, range_between, reading_of, reading_in, Rules, plain_entry, said_by, some_entry, text_entry, told_entry}
 use Rattle.lists.specs.declared.entry.Entry.TheVariants.{Network}
 use Rattle.lists.specs.declared.entry.EntryFault.TheVariants as causes
 use Rattle.lists.specs.declared.fault.LineFault.TheVariants as faults
 
 -- ---- tests
 
-not_true : (b : Bool) → ¬ (b ≡ true) → b ≡ false
+pub not_true : (b : Bool) → ¬ (b ≡ true) → b ≡ false
 not_true true n = absurd (n refl)
 not_true false n = refl
 
-true_false : ¬ (true ≡ false)
+pub true_false : ¬ (true ≡ false)
 true_false e = cc
 
 ok_is : (a b : Entry) → ◌≡◌ {A = Result Entry EntryFault} (Ok a) (Ok b) → a ≡ b
@@ -56,7 +56,7 @@ module _ (networks : (text : List ℕ) (result : Result IpNetwork CidrFault)
     by None e = e
     by (Some a) e = absurd (none a ((addresses text (Ok a)).1 (sym (ap (answer_from Ip) e))))
 
-  network_is : (text : List ℕ) (n : IpNetwork) → NamesIpNetwork text n → ip_network_of text ≡ Ok n
+  pub network_is : (text : List ℕ) (n : IpNetwork) → NamesIpNetwork text n → ip_network_of text ≡ Ok n
   network_is text n named = sym ((networks text (Ok n)).0 named)
 
   no_network : (text : List ℕ) → ((n : IpNetwork) → ¬ (NamesIpNetwork text n))
@@ -176,19 +176,19 @@ module _ (networks : (text : List ℕ) (result : Result IpNetwork CidrFault)
         named_network text entry none _ refl (sym (without_dash text none) ∙ e)
 
   -- whether a comment names an entry
-  comment_names : (text : List ℕ) → NamesSome text → is_ok (plain_entry text) ≡ true
+  pub comment_names : (text : List ℕ) → NamesSome text → is_ok (plain_entry text) ≡ true
   comment_names text (entry, named) = ap is_ok (plain_entry_is text entry named)
 
-  comment_names_none : (text : List ℕ) → NamesNone text → is_ok (plain_entry text) ≡ false
+  pub comment_names_none : (text : List ℕ) → NamesNone text → is_ok (plain_entry text) ≡ false
   comment_names_none text none = by (plain_entry text) refl where
     by : (read : Result Entry EntryFault) → plain_entry text ≡ read → is_ok (plain_entry text) ≡ false
     by (Ok entry) e = absurd (none entry (named_as_computed text entry e))
     by (Err fault) e = ap is_ok e
 
-  entry_is : (text : List ℕ) (entry : Entry) → NamesEntry text entry → text_entry text ≡ Ok entry
+  pub entry_is : (text : List ℕ) (entry : Entry) → NamesEntry text entry → text_entry text ≡ Ok entry
   entry_is text entry named = ap (told_entry text) (plain_entry_is text entry named)
 
-  fault_is : (text : List ℕ) (fault : EntryFault) → IsEntryCause text fault
+  pub fault_is : (text : List ℕ) (fault : EntryFault) → IsEntryCause text fault
       → ((entry : Entry) → ¬ (NamesEntry text entry)) → text_entry text ≡ Err fault
   fault_is text fault (cause, is, e) none =
       ap (told_entry text) (plain_cause_is text cause is none) ∙ ap Err (sym e)
@@ -225,10 +225,10 @@ module _ (networks : (text : List ℕ) (result : Result IpNetwork CidrFault)
 
 -- ---- what a line says
 
-pub said_is : (line : List ℕ) (reading : Result (Option Entry) EntryFault)
-    → length line ≤ 1024 → reading ≡ reading_of line → as_said reading ≡ said_by line
-said_is line reading short e =
+pub said_is : (rules : Rules) (line : List ℕ) (reading : Result (Option Entry) EntryFault)
+    → length line ≤ 1024 → reading ≡ reading_in rules.form rules.takes_masks line → as_said reading ≡ said_by rules line
+said_is rules line reading short e =
     ap as_said e ∙ sym (rw (no_less 1024 (length line) (λ l. omega (arith, l, short))))
 
-pub too_long : (line : List ℕ) → 1024 < length line → Err faults.Length ≡ said_by line
-too_long line long = sym (rw (lt-ltb 1024 (length line) long))
+pub too_long : (rules : Rules) (line : List ℕ) → 1024 < length line → Err faults.Length ≡ said_by rules line
+too_long rules line long = sym (rw (lt-ltb 1024 (length line) long))

@@ -4,7 +4,9 @@ use Rattle.std.specs.Prelude.{false, map, true}
 use Rattle.cidr_merge.proofs.Examples.{plain_merge}
 use Rattle.cidr_merge.specs.declared.command_line.Command.TheVariants as commands
 use Rattle.cidr_merge.specs.declared.command_line.Inspection.TheVariants as inspections
+use Rattle.cidr_merge.specs.declared.free_task.FreeTask.TheVariants as free_tasks
 use Rattle.cidr_merge.specs.declared.shapes.Shape.TheVariants as shapes
+use Rattle.lists.specs.declared.forms.LineForm.TheVariants as line_forms
 
 abbrev pub table : Table
 table =
@@ -36,6 +38,9 @@ pub wrong_options : {Z : Type 0} → Wrong Z (codes "union" ∷ codes "a" ∷ co
     × Wrong Z (codes "split" ∷ codes "a" ∷ codes "--skip-bad" ∷ [])
     × Wrong Z (codes "split" ∷ codes "a" ∷ codes "--prefix=129" ∷ [])
     × Wrong Z (codes "free" ∷ codes "a" ∷ codes "--" ∷ codes "b" ∷ codes "--all" ∷ [])
+    × Wrong Z (codes "free" ∷ codes "a" ∷ codes "--hosts=0" ∷ codes "--" ∷ codes "b" ∷ [])
+    × Wrong Z (codes "free" ∷ codes "a" ∷ codes "--hosts=1" ∷ codes "--all" ∷ codes "--" ∷ codes "b" ∷ [])
+    × Wrong Z (codes "free" ∷ codes "a" ∷ codes "--usage" ∷ codes "--prefix=9" ∷ codes "--" ∷ codes "b" ∷ [])
     × Wrong Z (codes "reduce" ∷ codes "a" ∷ codes "--most=0" ∷ [])
     × Wrong Z (codes "reduce" ∷ codes "a" ∷ codes "--max-others=1" ∷ [])
     × Wrong Z (codes "reduce" ∷ codes "a" ∷ codes "--most=1" ∷ codes "--ipv6=1" ∷ [])
@@ -52,6 +57,9 @@ wrong_options = (
   (λ _ o _ a _ b. simp (o, a, b)),
   (λ _ o _ a _ b. simp (o, a, b)),
   (λ _ o _ a _ b _ c _ d. simp (o, a, b, c, d)),
+  (λ _ o _ a _ b _ c _ d. simp (o, a, b, c, d)),
+  (λ _ o _ a _ b _ c _ d _ e. simp (o, a, b, c, d, e)),
+  (λ _ o _ a _ b _ c _ d _ e. simp (o, a, b, c, d, e)),
   (λ _ o _ a _ b. simp (o, a, b)),
   (λ _ o _ a _ b. simp (o, a, b)),
   (λ _ o _ a _ b _ c. simp (o, a, b, c)),
@@ -105,7 +113,14 @@ pub options_anywhere : {Z : Type 0}
     × Ask Z (codes "split" ∷ codes "a" ∷ codes "--prefix=+9" ∷ codes "--skip-bad" ∷ [])
     (commands.Split (record { length = 9; skips_bad = true; shape = shapes.Lines lenient; at_least = 0 })) (codes "a" ∷ [])
     × Ask Z (codes "free" ∷ codes "a" ∷ codes "--prefix=26" ∷ codes "--" ∷ codes "b" ∷ codes "--all" ∷ [])
-    (commands.Free (record { length = 26; all = true; merge = plain_merge Minus Blocks })) (codes "a" ∷ codes "b" ∷ [])
+    (commands.Free (record { task = free_tasks.Blocks; length = 26; all = true; merge = plain_merge Minus Blocks }))
+    (codes "a" ∷ codes "b" ∷ [])
+    × Ask Z (codes "free" ∷ codes "a" ∷ codes "--hosts=9,5" ∷ codes "--" ∷ codes "b" ∷ [])
+    (commands.Free (record { task = free_tasks.Places; length = 0; all = false; merge = plain_merge Minus Blocks }))
+    (codes "a" ∷ codes "b" ∷ [])
+    × Ask Z (codes "free" ∷ codes "a" ∷ codes "--" ∷ codes "b" ∷ codes "--usage" ∷ [])
+    (commands.Free (record { task = free_tasks.Usage; length = 0; all = false; merge = plain_merge Minus Blocks }))
+    (codes "a" ∷ codes "b" ∷ [])
     × Ask Z (codes "reduce" ∷ codes "a" ∷ codes "--most=18446744073709551616" ∷ codes "--ranges" ∷ [])
     (commands.Reduce (record {
       v4 = 18446744073709551615;
@@ -124,24 +139,32 @@ pub options_anywhere : {Z : Type 0}
       merge = plain_merge Union Blocks;
     }))
     (codes "a" ∷ [])
-    × Ask Z (codes "check" ∷ codes "a" ∷ codes "--strict" ∷ []) (commands.Inspect inspections.Strict) (codes "a" ∷ [])
-    × Ask Z (codes "find" ∷ codes "::1" ∷ codes "-" ∷ codes "--" ∷ codes "-" ∷ []) (commands.Find 2 0)
+    × Ask Z (codes "check" ∷ codes "a" ∷ codes "--strict" ∷ []) (commands.Inspect inspections.Strict (record lenient { refuses_host_bits = true })) (codes "a" ∷ [])
+    × Ask Z (codes "find" ∷ codes "::1" ∷ codes "-" ∷ codes "--" ∷ codes "-" ∷ []) (commands.Find 2 0 lenient)
     (codes "::1" ∷ codes "-" ∷ codes "-" ∷ [])
-    × Ask Z (codes "find" ∷ codes "--from" ∷ codes "-e x" ∷ codes "--" ∷ codes "a" ∷ []) (commands.Find 0 1)
+    × Ask Z (codes "find" ∷ codes "--from" ∷ codes "-e x" ∷ codes "--" ∷ codes "--whole" ∷ codes "a" ∷ []) (commands.Find 0 1 (record lenient { is_whole = true }))
     (codes "./-e x" ∷ codes "a" ∷ [])
+    × Ask Z (codes "overlaps" ∷ codes "--read=ipset" ∷ codes "a" ∷ []) (commands.Inspect inspections.Overlaps (record lenient { form = line_forms.Ipset }))
+    (codes "a" ∷ [])
+    × Ask Z (codes "find" ∷ codes "::1" ∷ codes "--masks" ∷ codes "--" ∷ codes "a" ∷ []) (commands.Find 1 0 (record lenient { takes_masks = true }))
+    (codes "::1" ∷ codes "a" ∷ [])
 options_anywhere = (
   (λ _ o _ a _ b _ c _ d. simp (o, a, b, c, d)),
   (λ _ o _ a _ b _ c _ d _ e. simp (o, a, b, c, d, e)),
   (λ _ o _ a _ b _ c. simp (o, a, b, c)),
   (λ _ o _ a _ b _ c _ d _ e. simp (o, a, b, c, d, e)),
+  (λ _ o _ a _ b _ c _ d. simp (o, a, b, c, d)),
+  (λ _ o _ a _ b _ c _ d. simp (o, a, b, c, d)),
   (λ _ o _ a _ b _ c. simp (o, a, b, c)),
   (λ _ o _ a _ b _ c. simp (o, a, b, c)),
   (λ _ o _ a _ b. simp (o, a, b)),
   (λ _ o _ a _ b _ c _ d. simp (o, a, b, c, d)),
+  (λ _ o _ a _ b _ c _ d _ e. simp (o, a, b, c, d, e)),
+  (λ _ o _ a _ b. simp (o, a, b)),
   (λ _ o _ a _ b _ c _ d. simp (o, a, b, c, d)),
 )
 
--- a number behind `reduce` is that of `--most`; a FILE and what stands behind another operation are not
+-- a number after `reduce` is that of `--most`; a FILE and what comes after another operation are not
 pub reduce_with_its_number : spelled_out (codes "reduce" ∷ codes "1000" ∷ codes "f" ∷ []) ≡ codes "reduce"
     ∷ codes "--most" ∷ codes "1000" ∷ codes "f" ∷ []
 reduce_with_its_number = refl

@@ -10,7 +10,7 @@ use Rattle.cidr_merge.specs.Options as own
 use Rattle.cidr_merge.specs.declared.bounds.Bound.{Bound}
 use Rattle.cidr_merge.specs.declared.bounds.Bound.TheVariants.{Any, Number, Percent}
 
--- whether so many others are allowed, beside so many addresses of the lists
+-- whether so many others are allowed for so many addresses of the lists
 abbrev pub allows : Bound → ℕ → ℕ → Bool
 allows Any addresses others = true
 allows (Number most) addresses others = nat_le others most

@@ -13,7 +13,7 @@ use Rattle.options.specs.declared.table.Table.{Table}
 use Rattle.cidr_merge.specs.Bounds.{bound_of, change_of}
 use Rattle.cidr_merge.specs.NamedLists.{lists_of}
 use Rattle.cidr_merge.specs.RightWords.{are_wrong, from_of}
-use Rattle.cidr_merge.specs.Forms.{form_of, shape_of, length_of, most_of, at_least_of}
+use Rattle.cidr_merge.specs.Forms.{form_of, rules_by, shape_of, length_of, most_of, at_least_of}
 use Rattle.cidr_merge.specs.Options as own
 use Rattle.cidr_merge.specs.SetNames.{Names, names_of}
 use Rattle.cidr_merge.specs.Sides.{before_dashes, behind_dashes}
@@ -24,6 +24,8 @@ use Rattle.cidr_merge.specs.declared.command_line.Command.TheVariants as command
 use Rattle.cidr_merge.specs.declared.command_line.Form.{Form}
 use Rattle.cidr_merge.specs.declared.command_line.Form.TheVariants.{Blocks, Exported}
 use Rattle.cidr_merge.specs.declared.command_line.FreeRequest.{FreeRequest}
+use Rattle.cidr_merge.specs.declared.free_task.FreeTask.{FreeTask}
+use Rattle.cidr_merge.specs.declared.free_task.FreeTask.TheVariants as free_tasks
 use Rattle.cidr_merge.specs.declared.command_line.Inspection.{Inspection}
 use Rattle.cidr_merge.specs.declared.command_line.Inspection.TheVariants as inspections
 use Rattle.cidr_merge.specs.declared.command_line.Operation.{Operation}
@@ -57,9 +59,16 @@ reduction_of items middle = record {
   merge = request_of operations.Union Blocks items middle;
 }
 
--- the free networks that these options ask for; the pools and the used addresses are read as the sides of a `minus`
+-- what a `free` prints by these options
+abbrev pub free_task_of : List Item → FreeTask
+free_task_of items =
+    if is_given items own.hosts then free_tasks.Places
+    else if is_given items own.usage then free_tasks.Usage else free_tasks.Blocks
+
+-- what of pools these options ask for; the pools and the used addresses are read as the sides of a `minus`
 abbrev pub free_of : List Item → ℕ → FreeRequest
 free_of items middle = record {
+  task = free_task_of items;
   length = length_of items;
   all = is_given items own.all;
   merge = request_of operations.Minus Blocks items middle;
@@ -81,9 +90,10 @@ asked_for tasks.Split items middle = commands.Split
       at_least = at_least_of items;
     })
 asked_for tasks.Reduce items middle = commands.Reduce (reduction_of items middle)
-asked_for tasks.Check items middle = commands.Inspect (inspection_of (is_given items own.strict))
-asked_for tasks.Overlaps items middle = commands.Inspect inspections.Overlaps
-asked_for tasks.Find items middle = commands.Find middle (length (from_of tasks.Find items))
+asked_for tasks.Check items middle =
+    commands.Inspect (inspection_of (is_given items own.strict)) (rules_by items)
+asked_for tasks.Overlaps items middle = commands.Inspect inspections.Overlaps (rules_by items)
+asked_for tasks.Find items middle = commands.Find middle (length (from_of tasks.Find items)) (rules_by items)
 asked_for tasks.Free items middle = commands.Free (free_of items middle)
 
 -- the items (options and FILEs) in the words before the first `--`, and in those after it

@@ -18,6 +18,7 @@ use Rattle.cidr_merge.specs.Runs.{EndsMerging}
 use Rattle.cidr_merge.specs.SetNames.{Names}
 use Rattle.cidr_merge.specs.Spelling.{spelled_out}
 use Rattle.cidr_merge.specs.Splits.{EndsSplitting}
+use Rattle.cidr_merge.specs.Texts.{whole}
 use Rattle.cidr_merge.specs.Writing.{EndsSilently}
 use Rattle.cidr_merge.specs.declared.command_line.Command.{Command}
 use Rattle.cidr_merge.specs.declared.command_line.Command.TheVariants as commands
@@ -31,10 +32,10 @@ EndsCommand known words sets (commands.Split request) old new status =
     EndsSplitting known words sets request old new status
 EndsCommand known words sets (commands.Reduce request) old new status =
     EndsReducing known words sets request old new status
-EndsCommand known words sets (commands.Inspect inspection) old new status =
-    EndsInspecting known words inspection old new status
-EndsCommand known words sets (commands.Find middle from) old new status =
-    EndsFind known words middle from old new status
+EndsCommand known words sets (commands.Inspect inspection rules) old new status =
+    EndsInspecting (whole known rules.is_whole) rules words inspection old new status
+EndsCommand known words sets (commands.Find middle from rules) old new status =
+    EndsFind (whole known rules.is_whole) rules words middle from old new status
 EndsCommand known words sets (commands.Free request) old new status =
     EndsFree known words sets request old new status
 

@@ -8,6 +8,7 @@ use Rattle.ipnetwork_family.specs.NetworkText.{slash}
 use Rattle.lists.specs.declared.entry.Entry.{Entry}
 use Rattle.lists.specs.declared.entry.Entry.TheVariants as entries
 use Rattle.lists.specs.declared.fault.LineFault.{LineFault}
+use Rattle.lists.specs.declared.rules.Rules.{Rules}
 use Rattle.program.specs.Escapes.{escaped}
 use Rattle.program.specs.Reported.{name_at}
 use Rattle.cidr_merge.specs.Findings.{place_text}
@@ -23,7 +24,7 @@ do_meet ends others = is_range ends.0 others.1 && is_range others.0 ends.1
 abbrev pub has_all : IpAddr × IpAddr → IpAddr × IpAddr → Bool
 has_all ends others = is_range ends.0 others.0 && is_range others.1 ends.1
 
--- how the addresses between two ends, those of an entry, stand to those between two others, those of a network
+-- how the addresses between two ends, those of an entry, relate to those between two others, those of a network
 abbrev pub relation_between : IpAddr × IpAddr → IpAddr × IpAddr → Relation
 relation_between ends others =
     if do_meet ends others
@@ -37,7 +38,7 @@ relation_of entry network = relation_between (ends_of entry) (ends_of (entries.N
 abbrev pub has_slash : List ℕ → Bool
 has_slash text = list_any (λ byte. byte == slash) text
 
--- what is told of an entry that has all addresses of the network that a text names: a text without a `/` is an address
+-- what is reported of an entry that has all addresses of the network that a text names: a text without a `/` is an address
 abbrev pub has_words : List ℕ → List ℕ
 has_words text = if has_slash text then codes ": has all of " else codes ": has "
 
@@ -65,19 +66,19 @@ matches_by sought name number line (Ok (Some entry)) =
     flat_map (match_lines name number line entry) sought
 matches_by sought name number line (Err fault) = []
 
-abbrev pub line_matches : {Z : Type 0} → List (List ℕ × IpNetwork) → List (String Z) → NumberedLine
+abbrev pub line_matches : {Z : Type 0} → Rules → List (List ℕ × IpNetwork) → List (String Z) → NumberedLine
     → List (List ℕ)
-line_matches sought names line =
-    matches_by sought (name_at names line.list) line.number line.text (said_by line.text)
+line_matches rules sought names line =
+    matches_by sought (name_at names line.list) line.number line.text (said_by rules line.text)
 
--- what is printed for all lines of the lists of these names and bytes
-abbrev pub lists_matches : {Z : Type 0} → List (List ℕ × IpNetwork) → List (String Z) → List (List ℕ)
+-- what is printed for all lines of the lists of these names and bytes, by these rules
+abbrev pub lists_matches : {Z : Type 0} → Rules → List (List ℕ × IpNetwork) → List (String Z) → List (List ℕ)
     → List (List ℕ)
-lists_matches sought names texts = flat_map (line_matches sought names) (numbered_lines 0 texts)
+lists_matches rules sought names texts = flat_map (line_matches rules sought names) (numbered_lines 0 texts)
 
 -- whether a line is refused, and whether one of the lists of these bytes is
-abbrev pub is_refused : NumberedLine → Bool
-is_refused line = is_err (said_by line.text)
+abbrev pub is_refused : Rules → NumberedLine → Bool
+is_refused rules line = is_err (said_by rules line.text)
 
-abbrev pub has_refused : List (List ℕ) → Bool
-has_refused texts = list_any is_refused (numbered_lines 0 texts)
+abbrev pub has_refused : Rules → List (List ℕ) → Bool
+has_refused rules texts = list_any (is_refused rules) (numbered_lines 0 texts)

@@ -2,6 +2,8 @@
 -- number of networks of a result and the greatest of a `reduce`.
 use Rattle.std.specs.Prelude.{ℕ, zero, suc, ◌==◌, List, [], ◌∷◌, Option, None, Some, if◌then◌else◌, codes, bytes_eq}
 use Rattle.std.specs.Option.{unwrap_or}
+use Rattle.lists.specs.declared.forms.LineForm.{LineForm}
+use Rattle.lists.specs.declared.forms.LineForm.TheVariants as lines
 use Rattle.lists.specs.declared.rules.Rules.{Rules}
 use Rattle.options.specs.Given.{is_given, value_of}
 use Rattle.options.specs.Values.{length_in, number_in}
@@ -34,13 +36,22 @@ form_of usual items =
     else if is_given items own.count then Counts
     else unwrap_or (form_called (value_of items own.format)) usual
 
+-- the form of another program that `--read` names
+abbrev pub line_form_called : List ℕ → Option LineForm
+line_form_called text =
+    if bytes_eq text (codes "csv") then Some lines.Csv
+    else if bytes_eq text (codes "ipset") then Some lines.Ipset
+    else if bytes_eq text (codes "nft") then Some lines.Nft
+    else None
+
 -- the rules of lists of lines: with `--strict` host bits are refused, with `--whole` lists that do not end with a line
--- feed, and with `--masks` a mask or wildcard may be a second word
+-- feed, with `--masks` a mask or wildcard may be a second word, and with `--read` lines are in the form that it names
 abbrev pub rules_by : List Item → Rules
 rules_by items = record {
   refuses_host_bits = is_given items own.strict;
   is_whole = is_given items own.whole;
   takes_masks = is_given items own.masks;
+  form = unwrap_or (line_form_called (value_of items own.read)) lines.Plain;
 }
 
 -- the format in which lists are written

@@ -11,6 +11,7 @@ pub mod FieldNames
 pub mod Findings
 pub mod Finds
 pub mod HeldBack
+pub mod Hosts
 pub mod InspectionRuns
 pub mod Forms
 pub mod FreeRuns
@@ -20,6 +21,7 @@ pub mod OneSide
 pub mod Options
 pub mod Overlaps
 pub mod Pieces
+pub mod Placements
 pub mod Private
 pub mod Reading
 pub mod Reductions
@@ -35,4 +37,5 @@ pub mod Splits
 pub mod Stopping
 pub mod Tasks
 pub mod Texts
+pub mod Usages
 pub mod Writing

@@ -1,4 +1,4 @@
--- The lists that a command line names: FILEs, and TEXTs of `-e`, which stand among them.
+-- The lists that a command line names: FILEs, and TEXTs of `-e`, which are among them.
 use Rattle.std.specs.Prelude.{ℕ, ◌==◌, ◌&&◌, List, [], ◌∷◌, ◌++◌, Option, None, Some, if◌then◌else◌, codes}
 use Rattle.std.specs.Option.{is_some}
 use Rattle.options.specs.declared.items.Item.{Item}
@@ -21,7 +21,7 @@ abbrev pub lists_of : List Item → List (List ℕ)
 lists_of [] = []
 lists_of (item ∷ items) = list_in item ++ lists_of items
 
--- the TEXT of the list of this name, if it is one: what stands behind `-`, `e` and a space
+-- the TEXT of the list of this name, if it is one: what comes after `-`, `e` and a space
 abbrev pub text_in : List ℕ → Option (List ℕ)
 text_in (dash ∷ letter ∷ space ∷ text) = if dash == 45 && letter == 101 && space == 32 then Some text else None
 text_in name = None

@@ -89,6 +89,15 @@ only_v4 = 25
 abbrev pub only_v6 : ℕ
 only_v6 = 26
 
+abbrev pub read : ℕ
+read = 27
+
+abbrev pub hosts : ℕ
+hosts = 28
+
+abbrev pub usage : ℕ
+usage = 29
+
 -- the options, in the order of their rows
 abbrev pub entries : List Entry
 entries =
@@ -102,12 +111,13 @@ entries =
     ∷ long (codes "--max-others") kinds.Text true ∷ long_flag (codes "--allow-empty")
     ∷ long (codes "--at-least") kinds.Number true ∷ long (codes "--max-change") kinds.Text true
     ∷ long (codes "--json-field") kinds.Text true ∷ long_flag (codes "--whole") ∷ long_flag (codes "--masks")
-    ∷ long_flag (codes "--all") ∷ flag (codes "4") ∷ flag (codes "6")
+    ∷ long_flag (codes "--all") ∷ flag (codes "4") ∷ flag (codes "6") ∷ long (codes "--read") kinds.Text true
+    ∷ long (codes "--hosts") kinds.Text true ∷ long_flag (codes "--usage")
     ∷ alone (codes "--help") ∷ alone (codes "--version") ∷ alone (codes "--quiet") ∷ []
 
 -- the pairs of options that exclude each other: two output forms, a number for one family and one for each, a least
 -- number of networks and none, documents and what is asked of lines, a family alone and the other or its number,
--- or an option that is given twice
+-- lines of another program and plain ones, two ways to say what is free, or an option that is given twice
 abbrev pub pairs : List (ℕ × ℕ)
 pairs =
     (ranges, count) ∷ (format, format) ∷ (format, ranges) ∷ (format, count) ∷ (prefix, prefix) ∷ (set, set)
@@ -115,7 +125,9 @@ pairs =
     ∷ (most, ipv4) ∷ (most, ipv6) ∷ (ipv4, ipv4) ∷ (ipv6, ipv6) ∷ (max_others, max_others)
     ∷ (at_least, at_least) ∷ (max_change, max_change) ∷ (allow_empty, at_least) ∷ (json, whole) ∷ (json, masks)
     ∷ (json_field, whole) ∷ (json_field, masks) ∷ (only_v4, only_v4) ∷ (only_v6, only_v6)
-    ∷ (only_v4, only_v6) ∷ (only_v4, ipv6) ∷ (only_v6, ipv4) ∷ []
+    ∷ (only_v4, only_v6) ∷ (only_v4, ipv6) ∷ (only_v6, ipv4) ∷ (read, read) ∷ (json, read)
+    ∷ (json_field, read) ∷ (masks, read) ∷ (text, read)
+    ∷ (hosts, hosts) ∷ (hosts, prefix) ∷ (hosts, all) ∷ (hosts, usage) ∷ (usage, prefix) ∷ (usage, all) ∷ []
 
 -- the table has these options and pairs
 abbrev pub IsOptions : Table → Type 0
@@ -125,22 +137,22 @@ IsOptions options = IsTable options entries pairs []
 abbrev pub taken : Task → List ℕ
 taken (tasks.Merge operations.Differ) =
     text ∷ ranges ∷ count ∷ format ∷ set ∷ table ∷ maxelem ∷ before ∷ after ∷ skip_bad ∷ json ∷ json_field ∷ strict
-    ∷ whole ∷ masks ∷ allow_empty ∷ at_least ∷ max_change ∷ only_v4 ∷ only_v6 ∷ []
+    ∷ whole ∷ masks ∷ read ∷ allow_empty ∷ at_least ∷ max_change ∷ only_v4 ∷ only_v6 ∷ []
 taken (tasks.Merge operation) =
     text ∷ ranges ∷ count ∷ format ∷ set ∷ table ∷ maxelem ∷ before ∷ after ∷ skip_bad ∷ json ∷ json_field ∷ strict
-    ∷ whole ∷ masks ∷ allow_empty ∷ at_least ∷ only_v4 ∷ only_v6 ∷ []
+    ∷ whole ∷ masks ∷ read ∷ allow_empty ∷ at_least ∷ only_v4 ∷ only_v6 ∷ []
 taken tasks.List =
     text ∷ ranges ∷ count ∷ format ∷ set ∷ table ∷ maxelem ∷ before ∷ after ∷ skip_bad ∷ json ∷ json_field ∷ strict
-    ∷ whole ∷ masks ∷ allow_empty ∷ at_least ∷ only_v4 ∷ only_v6 ∷ []
+    ∷ whole ∷ masks ∷ read ∷ allow_empty ∷ at_least ∷ only_v4 ∷ only_v6 ∷ []
 taken tasks.Split =
     text ∷ prefix ∷ before ∷ after ∷ skip_bad ∷ json ∷ json_field ∷ strict
-    ∷ whole ∷ masks ∷ at_least ∷ only_v4 ∷ only_v6 ∷ []
+    ∷ whole ∷ masks ∷ read ∷ at_least ∷ only_v4 ∷ only_v6 ∷ []
 taken tasks.Reduce =
     text ∷ ranges ∷ count ∷ format ∷ set ∷ table ∷ maxelem ∷ before ∷ after ∷ skip_bad ∷ json ∷ json_field ∷ strict
-    ∷ whole ∷ masks ∷ allow_empty ∷ at_least ∷ most ∷ ipv4 ∷ ipv6 ∷ max_others ∷ only_v4 ∷ only_v6 ∷ []
-taken tasks.Check = text ∷ strict ∷ []
-taken tasks.Overlaps = text ∷ []
-taken tasks.Find = text ∷ from ∷ []
+    ∷ whole ∷ masks ∷ read ∷ allow_empty ∷ at_least ∷ most ∷ ipv4 ∷ ipv6 ∷ max_others ∷ only_v4 ∷ only_v6 ∷ []
+taken tasks.Check = text ∷ strict ∷ whole ∷ masks ∷ read ∷ []
+taken tasks.Overlaps = text ∷ whole ∷ masks ∷ read ∷ []
+taken tasks.Find = text ∷ from ∷ whole ∷ masks ∷ read ∷ []
 taken tasks.Free =
-    text ∷ prefix ∷ all ∷ before ∷ after ∷ skip_bad ∷ json ∷ json_field ∷ strict ∷ whole ∷ masks ∷ allow_empty
-    ∷ only_v4 ∷ only_v6 ∷ []
+    text ∷ prefix ∷ all ∷ hosts ∷ usage ∷ before ∷ after ∷ skip_bad ∷ json ∷ json_field ∷ strict ∷ whole ∷ masks ∷ read
+    ∷ allow_empty ∷ only_v4 ∷ only_v6 ∷ []

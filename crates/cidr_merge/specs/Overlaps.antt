@@ -11,6 +11,7 @@ use Rattle.ipnetwork_addr.specs.declared.ip.IpAddr.{IpAddr}
 use Rattle.lists.specs.declared.entry.Entry.{Entry}
 use Rattle.lists.specs.declared.entry.Entry.TheVariants as entries
 use Rattle.lists.specs.declared.fault.LineFault.{LineFault}
+use Rattle.lists.specs.declared.rules.Rules.{Rules}
 use Rattle.program.specs.Reported.{name_at}
 use Rattle.cidr_merge.specs.Findings.{place_text}
 use Rattle.cidr_merge.specs.NumberedLines.{NumberedLine, numbered_lines, said_by}
@@ -37,12 +38,12 @@ entries_by list number (Ok None) = []
 entries_by list number (Ok (Some entry)) = listed list number entry ∷ []
 entries_by list number (Err fault) = []
 
-abbrev pub line_entries : NumberedLine → List Listed
-line_entries line = entries_by line.list line.number (said_by line.text)
+abbrev pub line_entries : Rules → NumberedLine → List Listed
+line_entries rules line = entries_by line.list line.number (said_by rules line.text)
 
--- the entries of lists with these bytes
-abbrev pub lists_entries : List (List ℕ) → List Listed
-lists_entries texts = flat_map line_entries (numbered_lines 0 texts)
+-- the entries of lists with these bytes, by these rules
+abbrev pub lists_entries : Rules → List (List ℕ) → List Listed
+lists_entries rules texts = flat_map (line_entries rules) (numbered_lines 0 texts)
 
 -- the order of entries: by the first address, then the last address in descending order, the list, and the line
 abbrev pub listed_cmp : Listed → Listed → Ordering
@@ -88,7 +89,7 @@ pairs_after names before [] = []
 pairs_after names before (entry ∷ others) =
     pairs_with names before entry ++ pairs_after names (before ++ entry ∷ []) others
 
--- the findings for lists with these bytes, where `finds` gives those for entries in order
-abbrev pub OrderedFindings : (List Listed → List (List ℕ)) → List (List ℕ) → List (List ℕ) → Type 0
-OrderedFindings finds texts findings =
-    (sorted : List Listed) × IsInOrder (lists_entries texts) sorted × (findings ≡ finds sorted)
+-- the findings for lists with these bytes, by these rules, where `finds` gives those for entries in order
+abbrev pub OrderedFindings : (List Listed → List (List ℕ)) → Rules → List (List ℕ) → List (List ℕ) → Type 0
+OrderedFindings finds rules texts findings =
+    (sorted : List Listed) × IsInOrder (lists_entries rules texts) sorted × (findings ≡ finds sorted)

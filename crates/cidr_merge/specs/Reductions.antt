@@ -23,7 +23,7 @@ lacks_number request sets =
     || ((request.v4 == 0 && is_any sets.v4) || (request.v6 == 0 && is_any sets.v6))
 
 -- the blocks of a family are joined until there are at most so many; it is allowed as many other addresses as it then
--- has, or not, beside those of the lists
+-- has, or not, compared with those of the lists
 pub record IsReduced (w most : ℕ) (bound : Bound) (set blocks : List Network) (allowed : Bool) : Type 0 where
   pub others : ℕ
   pub addresses : ℕ

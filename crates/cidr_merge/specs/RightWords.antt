@@ -9,7 +9,8 @@ use Rattle.options.specs.declared.items.Item.{Item}
 use Rattle.options.specs.declared.items.Item.TheVariants as says
 use Rattle.options.specs.declared.table.Table.{Table}
 use Rattle.cidr_merge.specs.Bounds.{bound_in}
-use Rattle.cidr_merge.specs.Forms.{form_called, form_of, most_in, prefix_in}
+use Rattle.cidr_merge.specs.Forms.{form_called, form_of, line_form_called, most_in, prefix_in}
+use Rattle.cidr_merge.specs.Hosts.{are_hosts}
 use Rattle.cidr_merge.specs.NamedLists.{file_name}
 use Rattle.cidr_merge.specs.Options as own
 use Rattle.cidr_merge.specs.Options.{taken}
@@ -33,10 +34,12 @@ abbrev pub is_value : ℕ → List ℕ → Bool
 is_value row text =
     if row == own.format then is_some (form_called text)
     else if row == own.prefix then is_some (prefix_in text)
+    else if row == own.read then is_some (line_form_called text)
     else if ((row == own.most || row == own.ipv4) || row == own.ipv6) || row == own.at_least then is_some (most_in text)
     else if row == own.max_others || row == own.max_change then is_some (bound_in text)
     else if row == own.set || row == own.table then is_set_name text
     else if row == own.maxelem then is_limit text
+    else if row == own.hosts then are_hosts text
     else if (row == own.from || row == own.text) || row == own.json_field then not (length text == 0)
     else true
 
@@ -53,10 +56,14 @@ is_wrong task (says.Lacks row) = true
 abbrev pub has_count : List Item → Bool
 has_count items = (is_given items own.most || is_given items own.ipv4) || is_given items own.ipv6
 
--- whether a `split` or a `free` has no prefix length, or a `reduce` no number of networks
+-- whether it is given what a `free` prints
+abbrev pub says_what : List Item → Bool
+says_what items = (is_given items own.prefix || is_given items own.hosts) || is_given items own.usage
+
+-- whether a `split` has no prefix length, a `free` nothing to print, or a `reduce` no number of networks
 abbrev pub lacks_value : Task → List Item → Bool
 lacks_value tasks.Split items = not (is_given items own.prefix)
-lacks_value tasks.Free items = not (is_given items own.prefix)
+lacks_value tasks.Free items = not (says_what items)
 lacks_value tasks.Reduce items = not (has_count items)
 lacks_value task items = false
 

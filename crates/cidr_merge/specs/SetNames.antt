@@ -1,5 +1,5 @@
 -- The families that a result has, the names of the sets that an export fills, their limit, the texts around each line,
--- and the names of fields of JSON.
+-- the names of fields of JSON, and numbers of hosts.
 use Rattle.std.specs.Prelude.{ℕ, ◌==◌, ◌&&◌, ◌||◌, Bool, false, not, List, [], ◌∷◌, ◌++◌, length, nat_lt, nat_le}
 use Rattle.std.specs.Prelude.{codes, if◌then◌else◌, Option, None, Some}
 use Rattle.std.specs.List.{concat, list_all}
@@ -12,8 +12,8 @@ use Rattle.cidr_merge.specs.Options as own
 use Rattle.cidr_merge.specs.declared.exports.Version.{Version}
 
 -- the family that is looked at alone, if not both are, the table of nftables, the beginning of the names of both sets,
--- the number of elements that a set of ipset is made for, the texts before and after each line, and the names of the
--- fields whose strings are read
+-- the number of elements that a set of ipset is made for, the texts before and after each line, the names of the
+-- fields whose strings are read, and the numbers of hosts of networks, with commas between them
 pub record Names : Type 0 where
   pub only : Option Version
   pub table : List ℕ
@@ -22,6 +22,7 @@ pub record Names : Type 0 where
   pub before : List ℕ
   pub after : List ℕ
   pub fields : List (List ℕ)
+  pub hosts : List ℕ
 
 -- a text as a name; empty if it has more than 22 bytes
 abbrev pub name_in : List ℕ → List ℕ
@@ -44,6 +45,7 @@ names_of items = record {
   before = value_of items own.before;
   after = value_of items own.after;
   fields = fields_of items;
+  hosts = value_of items own.hosts;
 }
 
 -- a line of these texts, with the texts before and after each line

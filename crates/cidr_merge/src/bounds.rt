@@ -37,8 +37,8 @@ pub(crate) fn bound_in(text: &str) -> Option<Bound>
     None
 }
 
-// The number that decimal digits name, or `u128::MAX` if it is greater.
-fn large_number(digits: &[u8]) -> u128
+/// Returns the number that decimal digits name, or `u128::MAX` if it is greater.
+pub(crate) fn large_number(digits: &[u8]) -> u128
     ensures { result ≡ large_number digits.now }
 {
     let mut number = 0u128;
@@ -50,7 +50,7 @@ fn large_number(digits: &[u8]) -> u128
     number
 }
 
-/// The greatest number of other addresses that the bound allows beside so many of the lists.
+/// The greatest number of other addresses that the bound allows for so many of the lists.
 pub(crate) fn allowed(bound: Bound, addresses: AddressCount) -> u128
     ensures { (others : ℕ) → others < 2 ^ 128
         → allows bound (count_number addresses) others ≡ nat_le others result }
@@ -65,7 +65,7 @@ pub(crate) fn allowed(bound: Bound, addresses: AddressCount) -> u128
     }
 }
 
-/// Whether the bound allows so many other addresses beside so many of the lists.
+/// Whether the bound allows so many other addresses for so many of the lists.
 pub(crate) fn does_allow(bound: Bound, addresses: AddressCount, others: AddressCount) -> bool
     ensures { result ≡ allows bound (count_number addresses) (count_number others) }
 {
@@ -75,7 +75,7 @@ pub(crate) fn does_allow(bound: Bound, addresses: AddressCount, others: AddressC
     }
 }
 
-// Whether the bound allows 2^128 other addresses beside so many of the lists.
+// Whether the bound allows 2^128 other addresses for so many of the lists.
 fn allows_all(bound: Bound, addresses: AddressCount) -> bool
     ensures { result ≡ allows bound (count_number addresses) (2 ^ 128) }
 {

@@ -14,15 +14,16 @@ use crate::bounds::{Bound, bound_in};
 use crate::dashes::{before_dashes, behind_dashes};
 use crate::exports::Export;
 use crate::faults::{fault_of, from_count, no_task_fault};
+use crate::free_task::{FreeTask, free_task_of};
 use crate::named_lists::{add_file, lists_of};
 use crate::rows::{
     ALL, ALLOW_EMPTY, AT_LEAST, COUNT, FORMAT, FROM, IPV4, IPV6, JSON, JSON_FIELD, MASKS,
-    MAX_CHANGE, MAX_OTHERS, MOST, PREFIX, RANGES, SKIP_BAD, STRICT, WHOLE, table,
+    MAX_CHANGE, MAX_OTHERS, MOST, PREFIX, RANGES, READ, SKIP_BAD, STRICT, WHOLE, table,
 };
 use crate::set_names::{SetNames, names_of};
-use crate::shapes::Shape;
+use crate::shapes::{Shape, line_form_called};
 use crate::tasks::{Task, task_called};
-use lists::Rules;
+use lists::{LineForm, Rules};
 use options::faults::{Fault, Subject, about};
 use options::given::{is_given, value_of};
 use options::items::Item;
@@ -107,9 +108,11 @@ pub struct ReduceRequest {
     pub merge: Request,
 }
 
-/// Which free networks are looked for.
+/// What is looked for in pools.
 #[derive(Clone, Copy, Debug, PartialEq, Eq)]
 pub struct FreeRequest {
+    /// What is printed.
+    pub task: FreeTask,
     /// The prefix length of the networks.
     pub length: u8,
     /// Whether each of them is printed, or only the first.
@@ -138,10 +141,11 @@ pub enum Command {
     Split(SplitRequest),
     /// Lists are reduced.
     Reduce(ReduceRequest),
-    /// Lists are looked over.
-    Inspect(Inspection),
-    /// The lists after so many addresses, and so many lists of addresses, are searched for these.
-    Find(usize, usize),
+    /// Lists are looked over, by these rules.
+    Inspect(Inspection, Rules),
+    /// The lists after so many addresses, and so many lists of addresses, are searched for these,
+    /// by these rules.
+    Find(usize, usize, Rules),
     /// Free networks of the lists of the first side are looked for.
     Free(FreeRequest),
 }
@@ -250,9 +254,12 @@ fn asked_for(task: Task, items: &[Item<'_>], middle: usize) -> Command
             at_least: at_least_of(items),
         }),
         Task::Reduce => Command::Reduce(reduction_of(items, middle)),
-        Task::Check => Command::Inspect(inspection_of(is_given(items, STRICT))),
-        Task::Overlaps => Command::Inspect(Inspection::Overlaps),
-        Task::Find => Command::Find(middle, from_count(task, items)),
+        Task::Check => {
+            let inspection = inspection_of(is_given(items, STRICT));
+            Command::Inspect(inspection, rules_by(items))
+        }
+        Task::Overlaps => Command::Inspect(Inspection::Overlaps, rules_by(items)),
+        Task::Find => Command::Find(middle, from_count(task, items), rules_by(items)),
         Task::Free => Command::Free(free_of(items, middle)),
     }
 }
@@ -286,11 +293,12 @@ fn reduction_of(items: &[Item<'_>], middle: usize) -> ReduceRequest
     }
 }
 
-// Which free networks these options ask for.
+// What of pools these options ask for.
 fn free_of(items: &[Item<'_>], middle: usize) -> FreeRequest
     ensures { result ≡ free_of items.now middle }
 {
     FreeRequest {
+        task: free_task_of(items),
         length: length_of(items),
         all: is_given(items, ALL),
         merge: request_of(Operation::Minus, Form::Blocks, items, middle),
@@ -351,6 +359,7 @@ fn rules_by(items: &[Item<'_>]) -> Rules
         refuses_host_bits: is_given(items, STRICT),
         is_whole: is_given(items, WHOLE),
         takes_masks: is_given(items, MASKS),
+        form: line_form_called(value_of(items, READ)).unwrap_or(LineForm::Plain),
     }
 }
 

@@ -1,4 +1,4 @@
-//! The entries in the lines of lists, and how they stand to networks.
+//! The entries in the lines of lists, and how they relate to networks.
 ghost use Rattle.std.specs.Prelude.{◌≡◌};
 ghost use Rattle.cidr_merge.specs.Finds.{do_meet, has_all, relation_of};
 ghost use Rattle.cidr_merge.specs.NumberedLines.{is_range, said_by};
@@ -6,9 +6,9 @@ ghost use Rattle.cidr_merge.specs.NumberedLines.{is_range, said_by};
 use crate::placed::ends_of;
 use ipnetwork::{IpAddr, IpNetwork, laws as network_laws};
 use ipnetwork_addr::laws as address_laws;
-use lists::{Entry, LINE_MAX, LineFault, read_entry};
+use lists::{Entry, LINE_MAX, LineFault, Rules, read_entry_by};
 
-/// How an entry stands to a network.
+/// How an entry relates to a network.
 #[derive(Clone, Copy, Debug, PartialEq, Eq)]
 pub(crate) enum Relation {
     /// It has all addresses of the network.
@@ -21,23 +21,29 @@ pub(crate) enum Relation {
     Apart,
 }
 
-/// Returns the entry of a line, if it has one, or why the line is refused.
-pub(crate) fn entry_of(line: &[u8]) -> Result<Option<Entry>, LineFault>
-    ensures { result ≡ said_by line.now }
+/// Returns the entry of a line that is read by these rules, if it has one, or why the line is
+/// refused. Host bits are kept, whatever the rules say of them.
+pub(crate) fn entry_of(rules: Rules, line: &[u8]) -> Result<Option<Entry>, LineFault>
+    ensures { result ≡ said_by rules line.now }
 {
-    // These do nothing. The proof needs the laws: the result of reading a text can be computed.
+    // These do nothing. The proof needs the laws: the result of reading a text can be computed, and
+    // the text of an address contains no blank and no `-`.
     network_laws::ip_network_reading_is_computed();
+    network_laws::mask_conversion();
     address_laws::ip_reading_is_computed();
+    address_laws::v4_text_is_computed();
+    address_laws::v4_text_bytes();
+    address_laws::v6_text_bytes();
     if line.len() > LINE_MAX {
         return Err(LineFault::Length);
     }
-    match read_entry(line) {
+    match read_entry_by(rules, line) {
         Ok(entry) => Ok(entry),
         Err(fault) => Err(LineFault::Entry(fault)),
     }
 }
 
-/// Returns how an entry stands to a network.
+/// Returns how an entry relates to a network.
 pub(crate) fn relation_of(entry: &Entry, network: &IpNetwork) -> Relation
     ensures { result ≡ relation_of entry.now network.now }
 {

@@ -5,6 +5,7 @@ ghost use Rattle.cidr_merge.specs.FindWords.{AreNetworks, with_networks};
 ghost use Rattle.cidr_merge.specs.Private.LinesLeft.{sought_in};
 ghost use Rattle.cidr_merge.specs.Private.SoughtPlaces.{AreQuery};
 ghost use Rattle.cidr_merge.specs.SoughtLines.{has_other, lists_sought};
+ghost use Rattle.cidr_merge.specs.Texts.{whole};
 
 use crate::context::Context;
 use crate::faults::at;
@@ -19,7 +20,7 @@ use crate::texts::{WholeLists, texts_of};
 use arrayvec::ArrayString;
 use ipnetwork::IpNetwork;
 use lines::output::Output;
-use lists::{EntryFault, LineFault, OpenLists, meant};
+use lists::{EntryFault, LineFault, OpenLists, Rules, meant};
 use options::refusing::refuse;
 use options::table::Row;
 use program::command_line::text_at;
@@ -35,21 +36,27 @@ const FOUND: u8 = 0;
 const NOTHING_FOUND: u8 = 1;
 
 /// Runs a `find`, and returns the exit status. The first `middle` names are addresses and
-/// networks, the next `from` name lists of such, and the others name the lists to search.
+/// networks, the next `from` name lists of such, and the others name the lists to search, which are
+/// read by these rules. If lists have to be whole, nothing is printed if a FILE does not end with a
+/// line feed.
 pub(crate) fn find<L: OpenLists, W: Write, E: Write>(
     middle: usize,
     from: usize,
+    rules: Rules,
     rows: &[Row],
     context: &Context<'_, L>,
     output: &mut Output<'_, W>,
     errors: &mut Output<'_, E>,
 ) -> u8
     requires { middle + from ≤ length context.now.names.now }
-    ensures { EndsFind (L.known context.now.lists.now) context.now.names.now middle from
-        output.old output.new result }
+    ensures { EndsFind (whole (L.known context.now.lists.now) rules.is_whole) rules
+        context.now.names.now middle from output.old output.new result }
 {
     match networks_of(context.alloc, &context.names[..middle], 0) {
-        Ok(networks) => find_all(middle, from, networks.as_slice(), context, output, errors),
+        Ok(networks) => {
+            let networks = networks.as_slice();
+            find_all(middle, from, rules, networks, context, output, errors)
+        }
         Err(fault) => refuse_sought(rows, fault, context.names, errors),
     }
 }
@@ -79,13 +86,18 @@ const PROBLEM_MAX: usize = 96;
 // Why a word is not taken, and what would do in its place.
 fn problem_of(word: &str, fault: EntryFault) -> ArrayString<PROBLEM_MAX> {
     let mut problem = ArrayString::new();
-    match meant(LineFault::Entry(fault), word.as_bytes()) {
-        Some(network) if fault == EntryFault::HostBits => {
-            add("a network with host bits (write ", &mut problem);
+    let (what, end) = match fault {
+        EntryFault::HostBits => ("a network with host bits", ", or an address)"),
+        _ => ("not an address or network", ")"),
+    };
+    add(what, &mut problem);
+    // What has host bits would not be taken.
+    if let Some(network) = meant(LineFault::Entry(fault), word.as_bytes()) {
+        if network.ip() == network.network() {
+            add(" (write ", &mut problem);
             add(network.canonical().as_str(), &mut problem);
-            add(", or an address)", &mut problem);
+            add(end, &mut problem);
         }
-        _ => add("not an address or network", &mut problem),
     }
     problem
 }
@@ -100,6 +112,7 @@ fn add(text: &str, problem: &mut ArrayString<PROBLEM_MAX>) {
 fn find_all<L: OpenLists, W: Write, E: Write>(
     middle: usize,
     from: usize,
+    rules: Rules,
     networks: &[IpNetwork],
     context: &Context<'_, L>,
     output: &mut Output<'_, W>,
@@ -107,23 +120,25 @@ fn find_all<L: OpenLists, W: Write, E: Write>(
 ) -> u8
     requires words { middle + from ≤ length context.now.names.now }
     requires networks { AreNetworks (take middle context.now.names.now) networks.now }
-    ensures { EndsReadingAll (L.known context.now.lists.now) context.now.names.now middle from
-        networks.now output.old output.new result }
+    ensures { EndsReadingAll (whole (L.known context.now.lists.now) rules.is_whole) rules
+        context.now.names.now middle from networks.now output.old output.new result }
 {
     let names = &context.names[middle..];
-    let texts = match texts_of(context, names, middle) {
+    let texts = match texts_of(context, names, middle, rules.is_whole) {
         Ok(texts) => texts,
-        Err(fault) => return refuse_lists(context.names, fault, errors),
+        Err(fault) => return refuse_lists(context, fault, errors),
     };
     let (from_names, list_names) = names.split_at(from);
     let (from_texts, list_texts) = texts.as_slice().split_at(from);
     let froms = WholeLists {
         names: from_names,
         texts: from_texts,
+        rules: Rules::lenient(),
     };
     let lists = WholeLists {
         names: list_names,
         texts: list_texts,
+        rules,
     };
     match all_sought(context.alloc, &context.names[..middle], networks, &froms) {
         Ok((query, mut buffer)) => {
@@ -173,7 +188,7 @@ fn search<W: Write, E: Write>(
 ) -> u8
     requires query { AreQuery query.now }
     requires room { length query.now.sought.items ≤ length buffer.old }
-    ensures { EndsSearching (sought_in query.now)
+    ensures { EndsSearching lists.now.rules (sought_in query.now)
         (has_other (map (λ text. text.items) froms.now.texts.now))
         lists.now.names.now (map (λ text. text.items) lists.now.texts.now)
         output.old output.new result }

@@ -3,12 +3,12 @@ ghost use Rattle.std.specs.Prelude.{◌≡◌, ◌++◌, ◌||◌, codes};
 ghost use Rattle.program.specs.Escapes.{escaped};
 ghost use Rattle.program.specs.Messages.{Reports};
 ghost use Rattle.cidr_merge.specs.Findings.{place_text, refusal_text};
-ghost use Rattle.cidr_merge.specs.Findings.{host_bits_text, line_shown, separator};
+ghost use Rattle.cidr_merge.specs.Findings.{cut_text, host_bits_text, line_shown, separator};
 
 use crate::help::PROGRAM;
 use crate::numbered_lines::Line;
 use lines::output::Output;
-use lists::LineFault;
+use lists::{LineFault, meant};
 use program::escapes::tell_escaped;
 use program::messages::{tell, tell_bytes, tell_number, tell_of};
 use program::usage::tell_shown;
@@ -30,14 +30,30 @@ pub(crate) fn tell_wrong<W: Write>(line: &Line<'_>, fault: LineFault, output: &m
     );
 }
 
-/// Reports why a line is refused, as `tell_wrong` prints it, in the name of the program.
+/// Reports why a line is refused, as `tell_wrong` prints it, in the name of the program, and what
+/// would do in its place.
 pub(crate) fn tell_refused<E: Write>(
     line: &Line<'_>,
     fault: LineFault,
     errors: &mut Output<'_, E>,
 ) {
+    let text = line_shown(fault, line.text);
     tell_of(PROGRAM, ": ", errors);
-    tell_wrong(line, fault, errors);
+    tell_place(line.name, line.number, errors);
+    tell_of(": refused ", fault.text(), errors);
+    tell(separator(text), errors);
+    tell_escaped(text, errors);
+    tell_meant(fault, text, errors);
+    tell("\n", errors);
+}
+
+// Reports the network that is probably meant, if that is clear.
+fn tell_meant<E: Write>(fault: LineFault, text: &[u8], errors: &mut Output<'_, E>) {
+    if let Some(network) = meant(fault, text) {
+        tell(" (write ", errors);
+        tell(network.canonical().as_str(), errors);
+        tell(")", errors);
+    }
 }
 
 /// Prints that the entry of a line has host bits, and the line.
@@ -46,6 +62,20 @@ pub(crate) fn tell_host_bits<W: Write>(line: &Line<'_>, output: &mut Output<'_, 
         (host_bits_text line.now.name.now line.now.number line.now.text.now) }
 {
     tell_line(line, ": host bits", b"", ": ", output);
+}
+
+/// Prints that no line feed ends the last line of a list, which may go on, and the line.
+pub(crate) fn tell_cut<W: Write>(line: &Line<'_>, output: &mut Output<'_, W>)
+    ensures { Reports output.old output.new
+        (cut_text line.now.name.now line.now.number line.now.text.now) }
+{
+    tell_line(
+        line,
+        ": no line feed at the end",
+        b"",
+        ": may be cut off: ",
+        output,
+    );
 }
 
 /// Prints the place of a line, two texts about it (`what` and `about`), a separator, and the line,

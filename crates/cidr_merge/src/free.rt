@@ -1,21 +1,24 @@
-//! Prints the free networks of pools.
+//! Prints the free networks of pools, or how much of them is used.
 ghost use Rattle.std.specs.Prelude.{◌≡◌, ◌≤◌, ◌∷◌, length};
 ghost use Rattle.std.specs.List.{flat_map};
 ghost use Rattle.program.specs.Putting.{PutsOrFails};
-ghost use Rattle.cidr_merge.specs.FreeRuns.{EndsFree, EndsFinding, EndsFamily, are_of_both, is_v6};
-ghost use Rattle.cidr_merge.specs.FreeRuns.{others_if};
+ghost use Rattle.cidr_merge.specs.FreeRuns.{EndsFree, EndsFinding, EndsFamily, EndsOfLength, EndsOfOne};
+ghost use Rattle.cidr_merge.specs.FreeRuns.{are_of_both, is_v6, others_if};
 ghost use Rattle.cidr_merge.specs.Pieces.{network_line};
 ghost use Rattle.cidr_merge.specs.Private.Printing.{WritesOrFails};
 
 use crate::command_line::FreeRequest;
 use crate::context::Context;
 use crate::cutting::put_network;
+use crate::free_task::FreeTask;
 use crate::help::PROGRAM;
+use crate::placing::print_places;
 use crate::reading::{Sets, refuse_lists};
 use crate::reduce::is_any;
 use crate::run::read_sides;
 use crate::set_names::SetNames;
 use crate::split::status;
+use crate::usage::print_usage;
 use allotting::{FreeBlocks, free_blocks};
 use ipnetwork::{Address, Network};
 use ipnetwork_sets::AddressSet;
@@ -25,13 +28,14 @@ use lists::OpenLists;
 use program::ending::{FAILED, end};
 use program::messages::tell_of;
 use program::telling::{InLists, tell_refusals};
+use std::alloc::Global;
 use std::io::Write;
 
 /// The exit status if no network is free.
 const NONE_FREE: u8 = 1;
 
-/// Reads the pools and the lists of used addresses, prints free networks, and returns the exit
-/// status.
+/// Reads the pools and the lists of used addresses, prints what is free or how much is used, and
+/// returns the exit status.
 pub(crate) fn free<L: OpenLists, W: Write, E: Write>(
     request: FreeRequest,
     context: &Context<'_, L>,
@@ -47,37 +51,65 @@ pub(crate) fn free<L: OpenLists, W: Write, E: Write>(
     match read {
         Ok(()) => {
             let skips = !refusals.is_empty();
-            find_free(&request, context.sets, skips, &pools, &used, output, errors)
+            find_free(&request, context, skips, pools, &used, output, errors)
         }
-        Err(fault) => refuse_lists(context.names, fault, errors),
+        Err(fault) => refuse_lists(context, fault, errors),
     }
 }
 
-// Prints the free networks of one family, unless lines were refused that are not to be skipped, or
-// the pools have both families.
-fn find_free<W: Write, E: Write>(
+// Prints free networks of pools, or how much of them is used, unless lines were refused that are not
+// to be skipped.
+fn find_free<L: OpenLists, W: Write, E: Write>(
     request: &FreeRequest,
-    names: &SetNames<'_>,
+    context: &Context<'_, L>,
     skips: bool,
-    pools: &Sets,
+    pools: Sets,
     used: &Sets,
     output: &mut Output<'_, W>,
     errors: &mut Output<'_, E>,
 ) -> u8
-    ensures { EndsFinding names.now request.now skips pools.now used.now output.old output.new
-        result }
+    ensures { EndsFinding context.now.sets.now request.now skips pools used.now output.old
+        output.new result }
 {
     if skips && !request.merge.skips_bad {
         return FAILED;
     }
-    if are_of_both(request, pools) {
+    let (alloc, names) = (context.alloc, context.sets);
+    match request.task {
+        FreeTask::Usage => {
+            print_usage(alloc, request, names, skips, &pools, used, output, errors)
+        }
+        FreeTask::Blocks | FreeTask::Places => {
+            print_of_one(alloc, request, names, skips, pools, used, output, errors)
+        }
+    }
+}
+
+// Prints free networks of one family, unless the pools have both.
+fn print_of_one<W: Write, E: Write>(
+    alloc: Global,
+    request: &FreeRequest,
+    names: &SetNames<'_>,
+    skips: bool,
+    pools: Sets,
+    used: &Sets,
+    output: &mut Output<'_, W>,
+    errors: &mut Output<'_, E>,
+) -> u8
+    ensures { EndsOfOne names.now request.now skips pools used.now output.old output.new result }
+{
+    if are_of_both(request, &pools) {
         tell_of(PROGRAM, BOTH, errors);
         return FAILED;
     }
-    if is_v6(request, pools) {
-        print_free(request, names, skips, &pools.v6, &used.v6, output, errors)
+    if is_v6(request, &pools) {
+        print_family(
+            alloc, request, names, skips, pools.v6, &used.v6, output, errors,
+        )
     } else {
-        print_free(request, names, skips, &pools.v4, &used.v4, output, errors)
+        print_family(
+            alloc, request, names, skips, pools.v4, &used.v4, output, errors,
+        )
     }
 }
 
@@ -99,6 +131,55 @@ fn is_v6(request: &FreeRequest, pools: &Sets) -> bool
 }
 
 // Prints the free networks of a family, unless no address of it is used.
+fn print_family<A: Address, W: Write, E: Write>(
+    alloc: Global,
+    request: &FreeRequest,
+    names: &SetNames<'_>,
+    skips: bool,
+    pools: AddressSet<Network<A>>,
+    used: &AddressSet<Network<A>>,
+    output: &mut Output<'_, W>,
+    errors: &mut Output<'_, E>,
+) -> u8
+    ensures { EndsFamily names.now A.family request.now skips pools used.now output.old output.new
+        result }
+{
+    if !is_any(used) && !request.merge.allows_empty {
+        tell_of(PROGRAM, lacking(request.length, is_any(&pools)), errors);
+        return FAILED;
+    }
+    match request.task {
+        FreeTask::Places => print_places(alloc, names, skips, pools, used, output, errors),
+        FreeTask::Blocks | FreeTask::Usage => {
+            print_free(request, names, skips, &pools, used, output, errors)
+        }
+    }
+}
+
+// The message if no address is used.
+const NONE_USED: &str = ": the FILEs after the -- have no address of the family of the pools: see \
+    --allow-empty\n";
+
+// The messages if the pools have no address of the family.
+const NO_POOL: &str = ": the FILEs before the -- have no address\n";
+
+const NO_V6_POOL: &str =
+    ": the FILEs before the -- have no address of IPv6, and IPv4 has no network of \
+    this length\n";
+
+// Returns the message if no address of a family is used, given the length of the networks that are
+// looked for, and whether the pools have an address of the family.
+fn lacking(length: u8, has_pool: bool) -> &'static str {
+    if has_pool {
+        NONE_USED
+    } else if length > 32 {
+        NO_V6_POOL
+    } else {
+        NO_POOL
+    }
+}
+
+// Prints the free networks of a family that have one prefix length.
 fn print_free<A: Address, W: Write, E: Write>(
     request: &FreeRequest,
     names: &SetNames<'_>,
@@ -108,13 +189,9 @@ fn print_free<A: Address, W: Write, E: Write>(
     output: &mut Output<'_, W>,
     errors: &mut Output<'_, E>,
 ) -> u8
-    ensures { EndsFamily names.now A.family request.now skips pools.now used.now output.old
+    ensures { EndsOfLength names.now A.family request.now skips pools.now used.now output.old
         output.new result }
 {
-    if !is_any(used) && !request.merge.allows_empty {
-        tell_of(PROGRAM, NONE_USED, errors);
-        return FAILED;
-    }
     let mut blocks = free_blocks(pools, used, request.length);
     let Some(first) = blocks.next() else {
         tell_of(PROGRAM, ": no network of this length is free\n", errors);
@@ -124,10 +201,6 @@ fn print_free<A: Address, W: Write, E: Write>(
     let status = status(skips);
     end(PROGRAM, written, status, errors)
 }
-
-// The message if no address is used.
-const NONE_USED: &str = ": the FILEs after the -- have no address of the family of the pools: see \
-    --allow-empty\n";
 
 // Writes the first free network, and the others if all are asked for.
 fn write_free<A: Address, W: Write>(

@@ -1,4 +1,4 @@
-//! The lists that a command line names: FILEs, and TEXTs of `-e`, which stand among them.
+//! The lists that a command line names: FILEs, and TEXTs of `-e`, which are among them.
 ghost use Rattle.std.specs.Prelude.{◌≡◌, ◌≢◌, ◌<◌, ◌++◌, ◌∷◌, [], List, ℕ, map};
 ghost use Rattle.std.specs.Prelude.{IfOk, None, OnOk, MatchOption};
 ghost use Rattle.std.specs.String.{string_bytes};

@@ -8,7 +8,7 @@ use crate::entry_match::entry_of;
 use crate::numbered_lines::{Line, NumberedLines};
 use crate::texts::WholeLists;
 use ipnetwork::IpAddr;
-use lists::Entry;
+use lists::{Entry, Rules};
 use std::alloc::{AllocError, Global};
 use std::cmp::Reverse;
 
@@ -32,24 +32,24 @@ pub(crate) struct Placed {
 /// Returns the entries of lists, in order, or `AllocError` if memory runs out.
 pub(crate) fn entries_of(alloc: Global, lists: &WholeLists<'_>) -> Result<Vec<Placed>, AllocError>
     ensures { IfOk result (λ entries. IsInOrder
-        (lists_entries (map (λ text. text.items) lists.now.texts.now))
+        (lists_entries lists.now.rules (map (λ text. text.items) lists.now.texts.now))
         (map listed_as entries.items)) }
 {
     let mut entries = Vec::new(alloc);
     let mut lines = NumberedLines::of(lists);
     while let Some(line) = lines.next() {
-        add_line(&line, &mut entries)?;
+        add_line(lists.rules, &line, &mut entries)?;
     }
     entries.sort_unstable();
     Ok(entries)
 }
 
-// Adds the entry of a line, if it has one.
-fn add_line(line: &Line<'_>, entries: &mut Vec<Placed>) -> Result<(), AllocError>
-    ensures { OnOk result (Adds (line_entries (as_numbered line.now)) entries.old.items
+// Adds the entry of a line that is read by these rules, if it has one.
+fn add_line(rules: Rules, line: &Line<'_>, entries: &mut Vec<Placed>) -> Result<(), AllocError>
+    ensures { OnOk result (Adds (line_entries rules (as_numbered line.now)) entries.old.items
         entries.new.items) }
 {
-    if let Ok(Some(entry)) = entry_of(line.text) {
+    if let Ok(Some(entry)) = entry_of(rules, line.text) {
         let (first, last) = ends_of(&entry);
         entries.push(Placed {
             first: key_of(&first),

@@ -42,7 +42,7 @@ pub(crate) fn reduce<L: OpenLists, W: Write, E: Write>(
     tell_refusals(PROGRAM, names, &InLists, &refusals, errors);
     match read {
         Ok(()) => join(request, context, !refusals.is_empty(), sets, output, errors),
-        Err(fault) => refuse_lists(names, fault, errors),
+        Err(fault) => refuse_lists(context, fault, errors),
     }
 }
 

@@ -102,8 +102,12 @@ fn obey<L: OpenLists, W: Write, E: Write>(
         Command::Merge(request) => merge(request, context, output, errors),
         Command::Split(request) => split(request, context, output, errors),
         Command::Reduce(request) => reduce(request, context, output, errors),
-        Command::Inspect(inspection) => inspect(inspection, context, output, errors),
-        Command::Find(middle, from) => find(middle, from, rows, context, output, errors),
+        Command::Inspect(inspection, rules) => {
+            inspect(inspection, rules, context, output, errors)
+        }
+        Command::Find(middle, from, rules) => {
+            find(middle, from, rules, rows, context, output, errors)
+        }
         Command::Free(request) => free(request, context, output, errors),
     }
 }
@@ -131,7 +135,7 @@ fn merge<L: OpenLists, W: Write, E: Write>(
             };
             answer(&merging, !refusals.is_empty(), output, errors)
         }
-        Err(fault) => refuse_lists(context.names, fault, errors),
+        Err(fault) => refuse_lists(context, fault, errors),
     }
 }
 

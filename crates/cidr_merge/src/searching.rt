@@ -17,7 +17,7 @@ use crate::sought::Sought;
 use crate::sought_places::put_found;
 use crate::texts::WholeLists;
 use lines::output::Output;
-use lists::Entry;
+use lists::{Entry, Rules};
 use std::io::Write;
 
 /// What a search wrote.
@@ -39,23 +39,26 @@ pub(crate) fn search_lists<W: Write, E: Write>(
 ) -> Reported
     requires query { AreQuery query.now }
     requires room { length query.now.sought.items ≤ length buffer.old }
-    ensures printed { TellsFound (lists_matches (sought_in query.now) lists.now.names.now
-        (map (λ text. text.items) lists.now.texts.now)) output.old output.new result.printed }
-    ensures told { result.told ≡ has_refused (map (λ text. text.items) lists.now.texts.now) }
+    ensures printed { TellsFound (lists_matches lists.now.rules (sought_in query.now)
+        lists.now.names.now (map (λ text. text.items) lists.now.texts.now))
+        output.old output.new result.printed }
+    ensures told { result.told ≡ has_refused lists.now.rules
+        (map (λ text. text.items) lists.now.texts.now) }
 {
     let mut printed = false;
     let mut told = false;
     let mut lines = NumberedLines::of(lists);
     while let Some(line) = lines.next() {
-        let more = search_line(query, buffer, &line, output, errors);
+        let more = search_line(lists.rules, query, buffer, &line, output, errors);
         printed = either(printed, more.printed);
         told = either(told, more.told);
     }
     Reported { printed, told }
 }
 
-// Searches a line, or reports why it is refused.
+// Searches a line that is read by these rules, or reports why it is refused.
 fn search_line<W: Write, E: Write>(
+    rules: Rules,
     query: &Query,
     buffer: &mut [usize],
     line: &Line<'_>,
@@ -65,11 +68,11 @@ fn search_line<W: Write, E: Write>(
     requires query { AreQuery query.now }
     requires room { length query.now.sought.items ≤ length buffer.old }
     ensures printed { TellsFound (matches_by (sought_in query.now) line.now.name.now
-        line.now.number line.now.text.now (said_by line.now.text.now))
+        line.now.number line.now.text.now (said_by rules line.now.text.now))
         output.old output.new result.printed }
-    ensures told { result.told ≡ is_err (said_by line.now.text.now) }
+    ensures told { result.told ≡ is_err (said_by rules line.now.text.now) }
 {
-    match entry_of(line.text) {
+    match entry_of(rules, line.text) {
         Ok(None) => Reported {
             printed: false,
             told: false,
@@ -137,7 +140,7 @@ fn print_found<W: Write>(
     printed
 }
 
-// Prints how the entry of a line stands to a network, if they share an address.
+// Prints how the entry of a line relates to a network, if they share an address.
 fn print_match<W: Write>(
     one: &Sought,
     line: &Line<'_>,
@@ -171,7 +174,7 @@ fn print_relation<W: Write>(
     true
 }
 
-// What is told of an entry that has all addresses of the network that a text names, which is an
+// What is reported of an entry that has all addresses of the network that a text names, which is an
 // address if it has no `/`.
 fn has_words(text: &[u8]) -> &'static str
     ensures { result.now ≡ has_words text.now }

@@ -1,5 +1,5 @@
 //! The families that a result has, the names of the sets that an export fills, their limit, the
-//! texts around each line, and the names of fields of JSON.
+//! texts around each line, the names of fields of JSON, and numbers of hosts.
 ghost use Rattle.std.specs.Prelude.{◌≡◌, ◌∷◌, [], IfOk, map};
 ghost use Rattle.std.specs.String.{string_bytes};
 ghost use Rattle.std.specs.List.{list_all};
@@ -10,7 +10,7 @@ ghost use Rattle.program.specs.Putting.{PutsOrFails};
 use crate::exports::Version;
 use crate::families::only_of;
 use crate::field_names::fields_of;
-use crate::rows::{AFTER, BEFORE, MAXELEM, SET, TABLE};
+use crate::rows::{AFTER, BEFORE, HOSTS, MAXELEM, SET, TABLE};
 use arrayvec::ArrayString;
 use lines::fault::RunFault;
 use lines::output::Output;
@@ -32,8 +32,8 @@ const MOST_ELEMENTS: u64 = 4_294_967_295;
 pub(crate) type Name = ArrayString<NAME_MAX>;
 
 /// The families that are looked at, the table of nftables, the beginning of both sets' names, how
-/// many elements a set of ipset is made for, the texts around each line, and the names of the
-/// fields of JSON that are read.
+/// many elements a set of ipset is made for, the texts around each line, the names of the fields of
+/// JSON that are read, and the numbers of hosts that networks are to have.
 #[derive(Debug, Drop)]
 pub struct SetNames<'a> {
     /// The family that is looked at alone, if not both are.
@@ -50,6 +50,8 @@ pub struct SetNames<'a> {
     pub after: &'a str,
     /// The names of the fields whose strings are read.
     pub fields: Vec<String>,
+    /// The numbers of hosts of the networks that are looked for, with commas between them.
+    pub hosts: &'a str,
 }
 
 // Contracts see the bytes of the names.
@@ -68,6 +70,7 @@ impl<'a> Model for SetNames<'a> {
       before = names.before.now;
       after = names.after.now;
       fields = map string_bytes names.fields.items;
+      hosts = names.hosts.now;
     } };
 }
 
@@ -94,6 +97,7 @@ pub(crate) fn names_of<'a>(alloc: Global, items: &[Item<'a>]) -> Result<SetNames
         before: value_of(items, BEFORE),
         after: value_of(items, AFTER),
         fields,
+        hosts: value_of(items, HOSTS),
     })
 }
 

@@ -1,14 +1,15 @@
 //! The formats of lists, and how a list is read.
 ghost use Rattle.std.specs.Prelude.{◌≡◌, false, map, OnOk, IfErr};
 ghost use Rattle.std.specs.String.{string_bytes};
+ghost use Rattle.cidr_merge.specs.Forms.{line_form_called};
 ghost use Rattle.cidr_merge.specs.Shapes.{rules_of, source, strings_in};
 ghost use Rattle.cidr_merge.specs.Shapes.{ReadsBy, ReadsOne, StopsBy, StopsOne};
 
 use crate::context::Context;
 use crate::named_lists::text_in;
 use lists::{
-    FieldNames, ListReader, OpenLists, ReadFault, Rules, Strings, read_document, read_named,
-    read_text,
+    FieldNames, LineForm, ListReader, OpenLists, ReadFault, Rules, Strings, read_document,
+    read_named, read_text,
 };
 
 /// The format of lists.
@@ -24,6 +25,18 @@ pub enum Shape {
     Fields,
     /// Such documents; entries with host bits are refused too.
     StrictFields,
+}
+
+/// Returns the form of this name in which lines are read.
+pub(crate) fn line_form_called(text: &str) -> Option<LineForm>
+    ensures { result ≡ line_form_called text.now }
+{
+    match text {
+        "csv" => Some(LineForm::Csv),
+        "ipset" => Some(LineForm::Ipset),
+        "nft" => Some(LineForm::Nft),
+        _ => None,
+    }
 }
 
 /// Returns the rules of lists of this format.

@@ -32,8 +32,8 @@ pub(crate) fn bound_in(text: &str) -> Option<Bound> {
     None
 }
 
-// The number that decimal digits name, or `u128::MAX` if it is greater.
-fn large_number(digits: &[u8]) -> u128 {
+/// Returns the number that decimal digits name, or `u128::MAX` if it is greater.
+pub(crate) fn large_number(digits: &[u8]) -> u128 {
     let mut number = 0u128;
     for digit in digits {
         number = number
@@ -43,7 +43,7 @@ fn large_number(digits: &[u8]) -> u128 {
     number
 }
 
-/// The greatest number of other addresses that the bound allows beside so many of the lists.
+/// The greatest number of other addresses that the bound allows for so many of the lists.
 pub(crate) fn allowed(bound: Bound, addresses: AddressCount) -> u128 {
     match bound {
         Bound::Any => u128::MAX,
@@ -55,7 +55,7 @@ pub(crate) fn allowed(bound: Bound, addresses: AddressCount) -> u128 {
     }
 }
 
-/// Whether the bound allows so many other addresses beside so many of the lists.
+/// Whether the bound allows so many other addresses for so many of the lists.
 pub(crate) fn does_allow(bound: Bound, addresses: AddressCount, others: AddressCount) -> bool {
     match others {
         AddressCount::Number(others) => others <= allowed(bound, addresses),
@@ -63,7 +63,7 @@ pub(crate) fn does_allow(bound: Bound, addresses: AddressCount, others: AddressC
     }
 }
 
-// Whether the bound allows 2^128 other addresses beside so many of the lists.
+// Whether the bound allows 2^128 other addresses for so many of the lists.
 fn allows_all(bound: Bound, addresses: AddressCount) -> bool {
     match bound {
         Bound::Any => true,

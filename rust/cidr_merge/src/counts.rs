@@ -19,7 +19,7 @@ pub(crate) struct Counts {
     pub(crate) addresses: AddressCount,
 }
 
-/// Both numbers as a text.
+/// One of the numbers or both as a text.
 pub(crate) type CountText = ArrayString<80>;
 
 impl Counts {
@@ -45,6 +45,13 @@ impl Counts {
         push_count(&mut text, self.addresses);
         text
     }
+}
+
+/// Returns a count of addresses as a text.
+pub(crate) fn count_text(count: AddressCount) -> CountText {
+    let mut text = ArrayString::new();
+    push_count(&mut text, count);
+    text
 }
 
 // Appends a count of addresses to a text.

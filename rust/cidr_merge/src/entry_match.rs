@@ -1,12 +1,12 @@
 // Written by scripts/plain out of crates/cidr_merge/src/entry_match.rt
 
-//! The entries in the lines of lists, and how they stand to networks.
+//! The entries in the lines of lists, and how they relate to networks.
 
 use crate::placed::ends_of;
 use fosibegan_core::ipnetwork::{IpAddr, IpNetwork};
-use cidr_programs::lists::{Entry, LINE_MAX, LineFault, read_entry};
+use cidr_programs::lists::{Entry, LINE_MAX, LineFault, Rules, read_entry_by};
 
-/// How an entry stands to a network.
+/// How an entry relates to a network.
 #[derive(Clone, Copy, Debug, PartialEq, Eq)]
 pub(crate) enum Relation {
     /// It has all addresses of the network.
@@ -19,19 +19,21 @@ pub(crate) enum Relation {
     Apart,
 }
 
-/// Returns the entry of a line, if it has one, or why the line is refused.
-pub(crate) fn entry_of(line: &[u8]) -> Result<Option<Entry>, LineFault> {
-    // These do nothing. The proof needs the laws: the result of reading a text can be computed.
+/// Returns the entry of a line that is read by these rules, if it has one, or why the line is
+/// refused. Host bits are kept, whatever the rules say of them.
+pub(crate) fn entry_of(rules: Rules, line: &[u8]) -> Result<Option<Entry>, LineFault> {
+    // These do nothing. The proof needs the laws: the result of reading a text can be computed, and
+    // the text of an address contains no blank and no `-`.
     if line.len() > LINE_MAX {
         return Err(LineFault::Length);
     }
-    match read_entry(line) {
+    match read_entry_by(rules, line) {
         Ok(entry) => Ok(entry),
         Err(fault) => Err(LineFault::Entry(fault)),
     }
 }
 
-/// Returns how an entry stands to a network.
+/// Returns how an entry relates to a network.
 pub(crate) fn relation_of(entry: &Entry, network: &IpNetwork) -> Relation {
     let ends = ends_of(entry);
     let others = (network.network(), network.broadcast());

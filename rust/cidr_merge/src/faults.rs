@@ -6,11 +6,13 @@ use fosibegan_core::plain_std::string::String;
 use crate::bounds::bound_in;
 use crate::command_line::{Form, Operation, form_called, form_of, most_in, prefix_in};
 use crate::exports::Export;
+use crate::hosts::are_hosts;
 use crate::rows::{
-    AFTER, AT_LEAST, BEFORE, FORMAT, FROM, IPV4, IPV6, JSON_FIELD, MAX_CHANGE, MAX_OTHERS, MAXELEM,
-    MOST, PREFIX, SET, TABLE, TEXT, taken,
+    AFTER, AT_LEAST, BEFORE, FORMAT, FROM, HOSTS, IPV4, IPV6, JSON_FIELD, MAX_CHANGE, MAX_OTHERS,
+    MAXELEM, MOST, PREFIX, READ, SET, TABLE, TEXT, USAGE, taken,
 };
 use crate::set_names::{is_limit, is_set_name};
+use crate::shapes::line_form_called;
 use crate::tasks::{ONE_SIDE, Task, is_two_sided, no_first, no_option};
 use cidr_programs::options::faults::{Fault, Subject, about, pair_fault, problem_at};
 use cidr_programs::options::given::is_given;
@@ -63,10 +65,12 @@ fn is_value(row: usize, text: &str) -> bool {
     match row {
         FORMAT => form_called(text).is_some(),
         PREFIX => prefix_in(text).is_some(),
+        READ => line_form_called(text).is_some(),
         MOST | IPV4 | IPV6 | AT_LEAST => most_in(text).is_some(),
         MAX_OTHERS | MAX_CHANGE => bound_in(text).is_some(),
         SET | TABLE => is_set_name(text),
         MAXELEM => is_limit(text),
+        HOSTS => are_hosts(text),
         FROM | TEXT | JSON_FIELD => !text.is_empty(),
         _ => true,
     }
@@ -114,19 +118,28 @@ fn has_count(items: &[Item<'_>]) -> bool {
     is_given(items, MOST) || is_given(items, IPV4) || is_given(items, IPV6)
 }
 
-// The fault if a `split` or a `free` has no prefix length, or a `reduce` no number of networks.
+// Whether it is given what a `free` prints.
+fn says_what(items: &[Item<'_>]) -> bool {
+    is_given(items, PREFIX) || is_given(items, HOSTS) || is_given(items, USAGE)
+}
+
+// The fault if a `split` has no prefix length, a `reduce` no number of networks, or a `free` no
+// option that says what to print.
 fn lacks_fault<'a>(task: Task, items: &[Item<'_>]) -> Option<Fault<'a>> {
     match task {
         Task::Split if !is_given(items, PREFIX) => {
             Some(about(Subject::CommandLine, "split: no --prefix N"))
         }
-        Task::Free if !is_given(items, PREFIX) => {
-            Some(about(Subject::CommandLine, "free: no --prefix N"))
+        Task::Free if !says_what(items) => {
+            Some(about(
+                Subject::CommandLine,
+                "free: no --prefix N, --hosts N,N,.. or --usage",
+            ))
         }
         Task::Reduce if !has_count(items) => {
             Some(about(
                 Subject::CommandLine,
-                "reduce: no number behind it, and no --most N, --ipv4 N or --ipv6 N",
+                "reduce: no number of networks: write reduce N, --most N, --ipv4 N or --ipv6 N",
             ))
         }
         _ => None,

@@ -18,7 +18,7 @@ use crate::texts::{WholeLists, texts_of};
 use fosibegan_core::plain_std::arrayvec::ArrayString;
 use fosibegan_core::ipnetwork::IpNetwork;
 use cidr_programs::lines::output::Output;
-use cidr_programs::lists::{EntryFault, LineFault, OpenLists, meant};
+use cidr_programs::lists::{EntryFault, LineFault, OpenLists, Rules, meant};
 use cidr_programs::options::refusing::refuse;
 use cidr_programs::options::table::Row;
 use cidr_programs::program::command_line::text_at;
@@ -34,17 +34,23 @@ const FOUND: u8 = 0;
 const NOTHING_FOUND: u8 = 1;
 
 /// Runs a `find`, and returns the exit status. The first `middle` names are addresses and
-/// networks, the next `from` name lists of such, and the others name the lists to search.
+/// networks, the next `from` name lists of such, and the others name the lists to search, which are
+/// read by these rules. If lists have to be whole, nothing is printed if a FILE does not end with a
+/// line feed.
 pub(crate) fn find<L: OpenLists, W: Write, E: Write>(
     middle: usize,
     from: usize,
+    rules: Rules,
     rows: &[Row],
     context: &Context<'_, L>,
     output: &mut Output<'_, W>,
     errors: &mut Output<'_, E>,
 ) -> u8 {
     match networks_of(context.alloc, &context.names[..middle], 0) {
-        Ok(networks) => find_all(middle, from, networks.as_slice(), context, output, errors),
+        Ok(networks) => {
+            let networks = networks.as_slice();
+            find_all(middle, from, rules, networks, context, output, errors)
+        }
         Err(fault) => refuse_sought(rows, fault, context.names, errors),
     }
 }
@@ -72,13 +78,18 @@ const PROBLEM_MAX: usize = 96;
 // Why a word is not taken, and what would do in its place.
 fn problem_of(word: &str, fault: EntryFault) -> ArrayString<PROBLEM_MAX> {
     let mut problem = ArrayString::new();
-    match meant(LineFault::Entry(fault), word.as_bytes()) {
-        Some(network) if fault == EntryFault::HostBits => {
-            add("a network with host bits (write ", &mut problem);
+    let (what, end) = match fault {
+        EntryFault::HostBits => ("a network with host bits", ", or an address)"),
+        _ => ("not an address or network", ")"),
+    };
+    add(what, &mut problem);
+    // What has host bits would not be taken.
+    if let Some(network) = meant(LineFault::Entry(fault), word.as_bytes()) {
+        if network.ip() == network.network() {
+            add(" (write ", &mut problem);
             add(network.canonical().as_str(), &mut problem);
-            add(", or an address)", &mut problem);
+            add(end, &mut problem);
         }
-        _ => add("not an address or network", &mut problem),
     }
     problem
 }
@@ -94,25 +105,28 @@ fn add(text: &str, problem: &mut ArrayString<PROBLEM_MAX>) {
 fn find_all<L: OpenLists, W: Write, E: Write>(
     middle: usize,
     from: usize,
+    rules: Rules,
     networks: &[IpNetwork],
     context: &Context<'_, L>,
     output: &mut Output<'_, W>,
     errors: &mut Output<'_, E>,
 ) -> u8 {
     let names = &context.names[middle..];
-    let texts = match texts_of(context, names, middle) {
+    let texts = match texts_of(context, names, middle, rules.is_whole) {
         Ok(texts) => texts,
-        Err(fault) => return refuse_lists(context.names, fault, errors),
+        Err(fault) => return refuse_lists(context, fault, errors),
     };
     let (from_names, list_names) = names.split_at(from);
     let (from_texts, list_texts) = texts.as_slice().split_at(from);
     let froms = WholeLists {
         names: from_names,
         texts: from_texts,
+        rules: Rules::lenient(),
     };
     let lists = WholeLists {
         names: list_names,
         texts: list_texts,
+        rules,
     };
     match all_sought(context.alloc, &context.names[..middle], networks, &froms) {
         Ok((query, mut buffer)) => {

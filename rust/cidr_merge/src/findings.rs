@@ -5,7 +5,7 @@
 use crate::help::PROGRAM;
 use crate::numbered_lines::Line;
 use cidr_programs::lines::output::Output;
-use cidr_programs::lists::LineFault;
+use cidr_programs::lists::{LineFault, meant};
 use cidr_programs::program::escapes::tell_escaped;
 use cidr_programs::program::messages::{tell, tell_bytes, tell_number, tell_of};
 use cidr_programs::program::usage::tell_shown;
@@ -24,19 +24,46 @@ pub(crate) fn tell_wrong<W: Write>(line: &Line<'_>, fault: LineFault, output: &m
     );
 }
 
-/// Reports why a line is refused, as `tell_wrong` prints it, in the name of the program.
+/// Reports why a line is refused, as `tell_wrong` prints it, in the name of the program, and what
+/// would do in its place.
 pub(crate) fn tell_refused<E: Write>(
     line: &Line<'_>,
     fault: LineFault,
     errors: &mut Output<'_, E>,
 ) {
+    let text = line_shown(fault, line.text);
     tell_of(PROGRAM, ": ", errors);
-    tell_wrong(line, fault, errors);
+    tell_place(line.name, line.number, errors);
+    tell_of(": refused ", fault.text(), errors);
+    tell(separator(text), errors);
+    tell_escaped(text, errors);
+    tell_meant(fault, text, errors);
+    tell("\n", errors);
+}
+
+// Reports the network that is probably meant, if that is clear.
+fn tell_meant<E: Write>(fault: LineFault, text: &[u8], errors: &mut Output<'_, E>) {
+    if let Some(network) = meant(fault, text) {
+        tell(" (write ", errors);
+        tell(network.canonical().as_str(), errors);
+        tell(")", errors);
+    }
 }
 
 /// Prints that the entry of a line has host bits, and the line.
 pub(crate) fn tell_host_bits<W: Write>(line: &Line<'_>, output: &mut Output<'_, W>) {
     tell_line(line, ": host bits", b"", ": ", output);
+}
+
+/// Prints that no line feed ends the last line of a list, which may go on, and the line.
+pub(crate) fn tell_cut<W: Write>(line: &Line<'_>, output: &mut Output<'_, W>) {
+    tell_line(
+        line,
+        ": no line feed at the end",
+        b"",
+        ": may be cut off: ",
+        output,
+    );
 }
 
 /// Prints the place of a line, two texts about it (`what` and `about`), a separator, and the line,

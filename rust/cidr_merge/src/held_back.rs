@@ -56,8 +56,8 @@ fn lacking(operation: Operation, first: &Sets, second: &Sets, least: u64) -> u64
     lacking_second(operation, v4_others, v6_others, without_any)
 }
 
-// How many networks are lacking beside those that an operation prints of what only the second side
-// has.
+// How many more networks are lacking than those that an operation prints of what only the second
+// side has.
 fn lacking_second(
     operation: Operation,
     v4: Sweep<'_, Ipv4Network>,
@@ -73,7 +73,7 @@ fn lacking_second(
     }
 }
 
-// How many networks are lacking beside these blocks.
+// How many more networks are lacking than these blocks.
 fn lacking_beside<N: AddressSpace>(mut blocks: Sweep<'_, N>, least: u64) -> u64 {
     let mut lacking = least;
     while lacking > 0 {

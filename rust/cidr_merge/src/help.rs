@@ -13,8 +13,8 @@ Merges lists of IP networks, and prints the shortest list with exactly the resul
     cidr_merge list   [OPTION..] FILE..             each address of any of the files
     cidr_merge split --prefix N [OPTION..] FILE..   the networks of union, in pieces of length N
     cidr_merge reduce [--most] N [OPTION..] FILE..  at most N networks with all of union, few others
-    cidr_merge check  [--strict] FILE..             wrong entries; --strict: host bits, overlaps too
-    cidr_merge overlaps FILE..                      wrong entries, and each pair that overlaps
+    cidr_merge check [--strict] [OPTION..] FILE..   wrong entries; --strict: host bits, overlaps too
+    cidr_merge overlaps [OPTION..] FILE..           wrong entries, and each pair that overlaps
     cidr_merge find [--from FILE] NETWORK.. -- FILE..  entries that meet one; --from: or one of FILE
     cidr_merge free --prefix N [--all] FILE.. -- FILE..  the first /N in minus; --all: each of them
 
@@ -27,15 +27,15 @@ Merges lists of IP networks, and prints the shortest list with exactly the resul
     --max-others N  allow each family N others, or N% of its addresses (100% as a rule), or any
     --at-least N   refuse a result of fewer networks; --allow-empty: print sets without elements
     --max-change N  refuse it if more than N addresses of a family went or came, or N% of the old
+    --hosts N,N    print a network of free for each number of hosts; --usage: how much is used
     --skip-bad     report refused lines, use the others; --strict: refuse host bits (10.0.0.5/8) too
-    --whole        refuse a FILE without a line feed at its end; --masks: take ADDRESS MASK too
+    --whole        refuse a FILE cut short; --masks: ADDRESS MASK too; --read FORM: csv, ipset, nft
     --json         use the strings of JSON that are entries; --json-field NAME: those of fields NAME
     --quiet        as first word: no progress; --help prints this text, as -h; --version the version
 
 FILE - is standard input. A line has a network (10.0.0.0/8, ::1), a range (A - B) or nothing; # and
 ; begin a comment. Host bits are ignored. Results ascend, IPv4 first. Status: 0; 1 if differ, check
 or overlaps found something, or find or free nothing; 2 after a refusal; 3 if it skipped lines.
-Example: sort -u today.txt | cidr_merge differ --count yesterday.txt -- -
 ";
 
 /// What `--version` prints.

@@ -1,9 +1,6 @@
 // Written by scripts/plain out of crates/cidr_merge/src/main.rt
 
 //! Merges lists of networks: prints the result of an operation on them as the shortest list.
-#![allow(unused_imports, unused_labels, unused_variables, dead_code)]
-#![allow(clippy::complexity, clippy::style, clippy::large_enum_variant, clippy::manual_contains,
-    clippy::non_canonical_clone_impl)]
 #![forbid(unsafe_code)]
 
 use fosibegan_core::plain_std::rt::HostRuntime;
@@ -26,14 +23,17 @@ mod field_names;
 mod find;
 mod findings;
 mod free;
+mod free_task;
 mod held_back;
 mod help;
+mod hosts;
 mod inspecting;
 mod merge_join;
 mod named_lists;
 mod numbered_lines;
 mod overlapping;
 mod placed;
+mod placing;
 mod printing;
 mod query;
 mod reading;
@@ -44,6 +44,7 @@ mod run;
 mod searching;
 mod set_names;
 mod shapes;
+mod share;
 mod side_parts;
 mod sought;
 mod sought_places;
@@ -53,6 +54,7 @@ mod sweep;
 mod tasks;
 mod text_lines;
 mod texts;
+mod usage;
 
 use crate::help::{PROGRAM, USAGE};
 use crate::run::run;

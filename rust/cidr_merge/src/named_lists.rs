@@ -1,6 +1,6 @@
 // Written by scripts/plain out of crates/cidr_merge/src/named_lists.rt
 
-//! The lists that a command line names: FILEs, and TEXTs of `-e`, which stand among them.
+//! The lists that a command line names: FILEs, and TEXTs of `-e`, which are among them.
 
 use fosibegan_core::plain_std::vec::Vec;
 use fosibegan_core::plain_std::string::String;

@@ -7,7 +7,7 @@ use crate::entry_match::entry_of;
 use crate::numbered_lines::{Line, NumberedLines};
 use crate::texts::WholeLists;
 use fosibegan_core::ipnetwork::IpAddr;
-use cidr_programs::lists::Entry;
+use cidr_programs::lists::{Entry, Rules};
 use fosibegan_core::plain_std::alloc::{AllocError, Global};
 use std::cmp::Reverse;
 
@@ -33,15 +33,15 @@ pub(crate) fn entries_of(alloc: Global, lists: &WholeLists<'_>) -> Result<Vec<Pl
     let mut entries = Vec::new(alloc);
     let mut lines = NumberedLines::of(lists);
     while let Some(line) = lines.next() {
-        add_line(&line, &mut entries)?;
+        add_line(lists.rules, &line, &mut entries)?;
     }
     entries.sort_unstable();
     Ok(entries)
 }
 
-// Adds the entry of a line, if it has one.
-fn add_line(line: &Line<'_>, entries: &mut Vec<Placed>) -> Result<(), AllocError> {
-    if let Ok(Some(entry)) = entry_of(line.text) {
+// Adds the entry of a line that is read by these rules, if it has one.
+fn add_line(rules: Rules, line: &Line<'_>, entries: &mut Vec<Placed>) -> Result<(), AllocError> {
+    if let Ok(Some(entry)) = entry_of(rules, line.text) {
         let (first, last) = ends_of(&entry);
         entries.push(Placed {
             first: key_of(&first),

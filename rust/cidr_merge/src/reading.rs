@@ -70,11 +70,12 @@ fn read_all<L: OpenLists>(
 }
 
 /// Reports why lists could not be read to their ends, and returns the exit status for that.
-pub(crate) fn refuse_lists<E: Write>(
-    words: &[String],
+pub(crate) fn refuse_lists<L: OpenLists, E: Write>(
+    context: &Context<'_, L>,
     fault: ReadFault,
     errors: &mut Output<'_, E>,
 ) -> u8 {
-    tell_fault(PROGRAM, words, fault, errors);
+    let fields = context.sets.field_names();
+    tell_fault(PROGRAM, context.names, fields, fault, errors);
     FAILED
 }

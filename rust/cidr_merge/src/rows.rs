@@ -87,8 +87,17 @@ pub(crate) const ONLY_V4: usize = 25;
 /// The row of `-6`.
 pub(crate) const ONLY_V6: usize = 26;
 
+/// The row of `--read`.
+pub(crate) const READ: usize = 27;
+
+/// The row of `--hosts`.
+pub(crate) const HOSTS: usize = 28;
+
+/// The row of `--usage`.
+pub(crate) const USAGE: usize = 29;
+
 // The options.
-const ROWS: [Row; 30] = [
+const ROWS: [Row; 33] = [
     long!("--ranges", Flag, false, ""),
     long!("--count", Flag, false, ""),
     long!(
@@ -127,6 +136,14 @@ const ROWS: [Row; 30] = [
     long!("--all", Flag, false, ""),
     letter!(b'4', Flag, ""),
     letter!(b'6', Flag, ""),
+    long!(
+        "--read",
+        Text,
+        true,
+        "not a form that is read; these are csv, ipset and nft"
+    ),
+    long!("--hosts", Text, true, NO_HOSTS),
+    long!("--usage", Flag, false, ""),
     long!("--help", Alone, false, "not the only argument"),
     long!("--version", Alone, false, "not the only argument"),
     long!(
@@ -145,7 +162,10 @@ const NO_NAME: &str = "not a name of 1 to 22 letters, digits, _, - and ., the fi
 const NO_COUNT: &str = "not a number from 1";
 
 // The message for a value of `--max-others` or `--max-change` that is not a bound.
-const NO_BOUND: &str = "not a number, a number with a % behind it, or any";
+const NO_BOUND: &str = "not a number, a number with a % after it, or any";
+
+// The message for a value of `--hosts` that is not numbers of hosts.
+const NO_HOSTS: &str = "not numbers from 1 of hosts, with a comma between them";
 
 // The message for `--most` together with the number of a family.
 const TWO_COUNTS: &str = "--most: not together with --ipv4 or --ipv6";
@@ -154,7 +174,7 @@ const TWO_COUNTS: &str = "--most: not together with --ipv4 or --ipv6";
 const ANOTHER_FORM: &str = "--format: given twice, or together with --ranges or --count";
 
 // The pairs of options that exclude each other.
-const PAIRS: [Pair; 29] = [
+const PAIRS: [Pair; 40] = [
     pair!(RANGES, COUNT, "--ranges: not together with --count"),
     pair!(FORMAT, FORMAT, ANOTHER_FORM),
     pair!(FORMAT, RANGES, ANOTHER_FORM),
@@ -188,6 +208,17 @@ const PAIRS: [Pair; 29] = [
     pair!(ONLY_V4, ONLY_V6, "-4: not together with -6"),
     pair!(ONLY_V4, IPV6, "-4: not together with --ipv6"),
     pair!(ONLY_V6, IPV4, "-6: not together with --ipv4"),
+    pair!(READ, READ, "--read: given twice"),
+    pair!(JSON, READ, "--read: not together with --json"),
+    pair!(JSON_FIELD, READ, "--read: not together with --json-field"),
+    pair!(MASKS, READ, "--read: not together with --masks"),
+    pair!(TEXT, READ, "--read: not together with -e"),
+    pair!(HOSTS, HOSTS, "--hosts: given twice"),
+    pair!(HOSTS, PREFIX, "--hosts: not together with --prefix"),
+    pair!(HOSTS, ALL, "--hosts: not together with --all"),
+    pair!(HOSTS, USAGE, "--hosts: not together with --usage"),
+    pair!(USAGE, PREFIX, "--usage: not together with --prefix"),
+    pair!(USAGE, ALL, "--usage: not together with --all"),
 ];
 
 /// The options.
@@ -202,7 +233,7 @@ pub(crate) fn table() -> Table<'static> {
 
 // The options of a merge, a `differ`, a `split`, a `reduce`, a `check` and a `free`, by the indices
 // of their rows.
-const OF_MERGES: [usize; 19] = [
+const OF_MERGES: [usize; 20] = [
     TEXT,
     RANGES,
     COUNT,
@@ -218,13 +249,14 @@ const OF_MERGES: [usize; 19] = [
     STRICT,
     WHOLE,
     MASKS,
+    READ,
     ALLOW_EMPTY,
     AT_LEAST,
     ONLY_V4,
     ONLY_V6,
 ];
 
-const OF_DIFFER: [usize; 20] = [
+const OF_DIFFER: [usize; 21] = [
     TEXT,
     RANGES,
     COUNT,
@@ -240,6 +272,7 @@ const OF_DIFFER: [usize; 20] = [
     STRICT,
     WHOLE,
     MASKS,
+    READ,
     ALLOW_EMPTY,
     AT_LEAST,
     MAX_CHANGE,
@@ -247,12 +280,12 @@ const OF_DIFFER: [usize; 20] = [
     ONLY_V6,
 ];
 
-const OF_SPLIT: [usize; 13] = [
-    TEXT, PREFIX, BEFORE, AFTER, SKIP_BAD, JSON, JSON_FIELD, STRICT, WHOLE, MASKS, AT_LEAST,
+const OF_SPLIT: [usize; 14] = [
+    TEXT, PREFIX, BEFORE, AFTER, SKIP_BAD, JSON, JSON_FIELD, STRICT, WHOLE, MASKS, READ, AT_LEAST,
     ONLY_V4, ONLY_V6,
 ];
 
-const OF_REDUCE: [usize; 23] = [
+const OF_REDUCE: [usize; 24] = [
     TEXT,
     RANGES,
     COUNT,
@@ -268,6 +301,7 @@ const OF_REDUCE: [usize; 23] = [
     STRICT,
     WHOLE,
     MASKS,
+    READ,
     ALLOW_EMPTY,
     AT_LEAST,
     MOST,
@@ -278,12 +312,14 @@ const OF_REDUCE: [usize; 23] = [
     ONLY_V6,
 ];
 
-const OF_CHECK: [usize; 2] = [TEXT, STRICT];
+const OF_CHECK: [usize; 5] = [TEXT, STRICT, WHOLE, MASKS, READ];
 
-const OF_FREE: [usize; 14] = [
+const OF_FREE: [usize; 17] = [
     TEXT,
     PREFIX,
     ALL,
+    HOSTS,
+    USAGE,
     BEFORE,
     AFTER,
     SKIP_BAD,
@@ -292,6 +328,7 @@ const OF_FREE: [usize; 14] = [
     STRICT,
     WHOLE,
     MASKS,
+    READ,
     ALLOW_EMPTY,
     ONLY_V4,
     ONLY_V6,
@@ -305,8 +342,8 @@ pub(crate) fn taken(task: Task) -> &'static [usize] {
         Task::Split => &OF_SPLIT,
         Task::Reduce => &OF_REDUCE,
         Task::Check => &OF_CHECK,
-        Task::Overlaps => &[TEXT],
-        Task::Find => &[TEXT, FROM],
+        Task::Overlaps => &[TEXT, WHOLE, MASKS, READ],
+        Task::Find => &[TEXT, FROM, WHOLE, MASKS, READ],
         Task::Free => &OF_FREE,
     }
 }

@@ -10,7 +10,7 @@ use crate::sought::Sought;
 use crate::sought_places::put_found;
 use crate::texts::WholeLists;
 use cidr_programs::lines::output::Output;
-use cidr_programs::lists::Entry;
+use cidr_programs::lists::{Entry, Rules};
 use fosibegan_core::plain_std::io::Write;
 
 /// What a search wrote.
@@ -34,22 +34,23 @@ pub(crate) fn search_lists<W: Write, E: Write>(
     let mut told = false;
     let mut lines = NumberedLines::of(lists);
     while let Some(line) = lines.next() {
-        let more = search_line(query, buffer, &line, output, errors);
+        let more = search_line(lists.rules, query, buffer, &line, output, errors);
         printed = either(printed, more.printed);
         told = either(told, more.told);
     }
     Reported { printed, told }
 }
 
-// Searches a line, or reports why it is refused.
+// Searches a line that is read by these rules, or reports why it is refused.
 fn search_line<W: Write, E: Write>(
+    rules: Rules,
     query: &Query,
     buffer: &mut [usize],
     line: &Line<'_>,
     output: &mut Output<'_, W>,
     errors: &mut Output<'_, E>,
 ) -> Reported {
-    match entry_of(line.text) {
+    match entry_of(rules, line.text) {
         Ok(None) => Reported {
             printed: false,
             told: false,
@@ -108,7 +109,7 @@ fn print_found<W: Write>(
     printed
 }
 
-// Prints how the entry of a line stands to a network, if they share an address.
+// Prints how the entry of a line relates to a network, if they share an address.
 fn print_match<W: Write>(
     one: &Sought,
     line: &Line<'_>,
@@ -136,7 +137,7 @@ fn print_relation<W: Write>(
     true
 }
 
-// What is told of an entry that has all addresses of the network that a text names, which is an
+// What is reported of an entry that has all addresses of the network that a text names, which is an
 // address if it has no `/`.
 fn has_words(text: &[u8]) -> &'static str {
     if has_slash(text) {

@@ -6,8 +6,8 @@ use fosibegan_core::plain_std::string::String;
 use crate::context::Context;
 use crate::named_lists::text_in;
 use cidr_programs::lists::{
-    FieldNames, ListReader, OpenLists, ReadFault, Rules, Strings, read_document, read_named,
-    read_text,
+    FieldNames, LineForm, ListReader, OpenLists, ReadFault, Rules, Strings, read_document,
+    read_named, read_text,
 };
 
 /// The format of lists.
@@ -23,6 +23,16 @@ pub enum Shape {
     Fields,
     /// Such documents; entries with host bits are refused too.
     StrictFields,
+}
+
+/// Returns the form of this name in which lines are read.
+pub(crate) fn line_form_called(text: &str) -> Option<LineForm> {
+    match text {
+        "csv" => Some(LineForm::Csv),
+        "ipset" => Some(LineForm::Ipset),
+        "nft" => Some(LineForm::Nft),
+        _ => None,
+    }
 }
 
 /// Returns the rules of lists of this format.

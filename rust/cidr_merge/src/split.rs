@@ -36,7 +36,7 @@ pub(crate) fn split<L: OpenLists, W: Write, E: Write>(
             output,
             errors,
         ),
-        Err(fault) => refuse_lists(names, fault, errors),
+        Err(fault) => refuse_lists(context, fault, errors),
     }
 }
 

@@ -21,7 +21,7 @@ pub enum Task {
     Overlaps,
     /// Entries that have addresses are printed.
     Find,
-    /// Free networks of a pool are printed.
+    /// Free networks of a pool are printed, or how much of it is used.
     Free,
 }
 
@@ -62,24 +62,30 @@ pub(crate) fn no_option(task: Task) -> &'static str {
             "not an option of union, common, minus or list; they take -e TEXT, --ranges, --count, \
              --format FORM, --set NAME, --table NAME, --maxelem N, --line-prefix TEXT, \
              --line-suffix TEXT, --allow-empty, --at-least N, --skip-bad, --json, \
-             --json-field NAME, --strict, --whole, --masks, -4 and -6"
+             --json-field NAME, --strict, --whole, --masks, --read FORM, -4 and -6"
         }
         Task::Split => {
             "not an option of split; it takes -e TEXT, --prefix N, --line-prefix TEXT, \
              --line-suffix TEXT, --at-least N, --skip-bad, --json, --json-field NAME, --strict, \
-             --whole, --masks, -4 and -6"
+             --whole, --masks, --read FORM, -4 and -6"
         }
         Task::Reduce => {
             "not an option of reduce; it takes --most N, --ipv4 N, --ipv6 N, --max-others N and \
              the options of union"
         }
-        Task::Check => "not an option of check; it takes -e TEXT and --strict",
-        Task::Overlaps => "not an option of overlaps; it takes -e TEXT",
-        Task::Find => "not an option of find; it takes -e TEXT and --from FILE",
+        Task::Check => {
+            "not an option of check; it takes -e TEXT, --strict, --whole, --masks and --read FORM"
+        }
+        Task::Overlaps => {
+            "not an option of overlaps; it takes -e TEXT, --whole, --masks and --read FORM"
+        }
+        Task::Find => {
+            "not an option of find; it takes -e TEXT, --from FILE, --whole, --masks and --read FORM"
+        }
         Task::Free => {
-            "not an option of free; it takes -e TEXT, --prefix N, --all, --line-prefix TEXT, \
-             --line-suffix TEXT, --allow-empty, --skip-bad, --json, --json-field NAME, --strict, \
-             --whole, --masks, -4 and -6"
+            "not an option of free; it takes -e TEXT, --prefix N, --all, --hosts N,N,.., --usage, \
+             --line-prefix TEXT, --line-suffix TEXT, --allow-empty, --skip-bad, --json, \
+             --json-field NAME, --strict, --whole, --masks, --read FORM, -4 and -6"
         }
     }
 }

@@ -6,25 +6,29 @@ use fosibegan_core::plain_std::vec::Vec;
 use fosibegan_core::plain_std::string::String;
 use crate::context::Context;
 use crate::named_lists::text_in;
-use cidr_programs::lists::{BytesFault, OpenLists, ReadFault, read_bytes};
+use cidr_programs::lists::{BytesFault, OpenLists, ReadFault, Rules, ends_with_feed, read_bytes};
 
-/// The names and the bytes of lists.
+/// The names and the bytes of lists, and the rules by which their lines are read.
 pub(crate) struct WholeLists<'a> {
     /// The names of the lists.
     pub names: &'a [String],
     /// The bytes of each list, in the same order.
     pub texts: &'a [Vec<u8>],
+    /// The rules by which the lines are read.
+    pub rules: Rules,
 }
 
 /// Returns the bytes of the lists of these names; the first name is the word at the index `first`.
+/// If lists have to be whole, a FILE that does not end with a line feed is a fault.
 pub(crate) fn texts_of<L: OpenLists>(
     context: &Context<'_, L>,
     names: &[String],
     first: usize,
+    is_whole: bool,
 ) -> Result<Vec<Vec<u8>>, ReadFault> {
     let mut texts = Vec::new(context.alloc);
     for place in 0..names.len() {
-        let text = match text_of(context, names[place].as_str(), first + place) {
+        let text = match text_of(context, names[place].as_str(), first + place, is_whole) {
             Ok(text) => text,
             Err(fault) => return Err(fault),
         };
@@ -40,13 +44,14 @@ fn text_of<L: OpenLists>(
     context: &Context<'_, L>,
     name: &str,
     place: usize,
+    is_whole: bool,
 ) -> Result<Vec<u8>, ReadFault> {
     match text_in(name) {
         Some(text) => match Vec::from_slice(context.alloc, text.as_bytes()) {
             Ok(text) => Ok(text),
             Err(_) => Err(ReadFault::OutOfMemory),
         },
-        None => file_of(context, name, place),
+        None => file_of(context, name, place, is_whole),
     }
 }
 
@@ -55,11 +60,22 @@ fn file_of<L: OpenLists>(
     context: &Context<'_, L>,
     name: &str,
     place: usize,
+    is_whole: bool,
 ) -> Result<Vec<u8>, ReadFault> {
     match read_bytes(context.alloc, context.lists, name, usize::MAX) {
-        Ok(text) => Ok(text),
+        Ok(text) => {
+            if is_cut(is_whole, text.as_slice()) {
+                return Err(ReadFault::Cut(place));
+            }
+            Ok(text)
+        }
         Err(fault) => Err(not_read(fault, place)),
     }
+}
+
+// Returns whether a list has to end with a line feed, and does not.
+fn is_cut(is_whole: bool, text: &[u8]) -> bool {
+    is_whole && !ends_with_feed(text)
 }
 
 // Returns why the list that the word at this index names was not read. No list is too long.

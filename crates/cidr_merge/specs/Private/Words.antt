@@ -8,6 +8,6 @@ abbrev pub IsCommandWithin : ℕ → Command → Type 0
 IsCommandWithin count (commands.Merge request) = request.middle ≤ count
 IsCommandWithin count (commands.Split request) = Unit {0}
 IsCommandWithin count (commands.Reduce request) = Unit {0}
-IsCommandWithin count (commands.Inspect inspection) = Unit {0}
-IsCommandWithin count (commands.Find middle from) = middle + from ≤ count
+IsCommandWithin count (commands.Inspect inspection rules) = Unit {0}
+IsCommandWithin count (commands.Find middle from rules) = middle + from ≤ count
 IsCommandWithin count (commands.Free request) = request.merge.middle ≤ count

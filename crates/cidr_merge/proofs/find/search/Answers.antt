@@ -4,7 +4,7 @@ use Rattle.cidr_merge.proofs.find.search.Goals as goal
 pub returns : goal.returns
 returns g c =
     let reported = c.search_lists-reported in
-    search_ended (sought_in c.args.query.now) (has_other (map (λ text. text.items) c.args.froms.now.texts.now))
+    search_ended c.args.lists.now.rules (sought_in c.args.query.now) (has_other (map (λ text. text.items) c.args.froms.now.texts.now))
     c.args.lists.now.names.now (map (λ text. text.items) c.args.lists.now.texts.now)
     c.args.output.now reported.new.output c.finish-written.new.self c.finish-written.result reported.result.printed
     c.either.result c.status-status.result c.end.result reported.ensures.printed

@@ -6,6 +6,6 @@ returns-in-Ok g c =
     let r = c.read_sides-pools.result in
     inr (r.0, r.1, r.2, rw c.in-Ok.is at c.read_sides-pools.ensures.read, rw c.is_empty-skips.ensures at c.find_free.ensures)
 
-pub returns : goal.returns
-returns g c =
+pub returns-in-Err : goal.returns-in-Err
+returns-in-Err g c =
     inl (c.in-Err.fault, rw c.in-Err.is at c.read_sides-pools.ensures.stopped, (refl, c.refuse_lists.ensures))

@@ -6,7 +6,7 @@ returns c =
     let entries = c.loop-line.entries.items in
     let sorted = c.sort_unstable.new.self.items in
     let found = sym (append-nil (map listed_as entries))
-    ∙ ap (λ ls. map listed_as entries ++ flat_map line_entries ls) (sym c.in_default.ensures.line)
+    ∙ ap (λ ls. map listed_as entries ++ flat_map (line_entries c.args.lists.now.rules) ls) (sym c.in_default.ensures.line)
     ∙ c.loop-line.invariant in record {
       same = subst (λ f. IsPermutation f (map listed_as sorted)) found
           (IsPermutation-map listed_as entries sorted c.sort_unstable.ensures.permutation);

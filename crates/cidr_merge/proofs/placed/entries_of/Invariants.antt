@@ -3,8 +3,8 @@ use Rattle.cidr_merge.proofs.placed.entries_of.Given as goal
 
 abbrev pub invariant-loop-line : goal.invariant-loop-line
 invariant-loop-line l =
-    map listed_as l.entries.items ++ flat_map line_entries (lines_left l.lines)
-    ≡ lists_entries (map (λ text. text.items) l.lists.texts.now)
+    map listed_as l.entries.items ++ flat_map (line_entries l.lists.rules) (lines_left l.lines)
+    ≡ lists_entries l.lists.rules (map (λ text. text.items) l.lists.texts.now)
 
 abbrev pub decreases-loop-line : goal.decreases-loop-line
 decreases-loop-line l = length (lines_left l.lines)

@@ -4,11 +4,11 @@ use Rattle.cidr_merge.proofs.searching.search_lists.Given as goal
 abbrev pub invariant-loop-line : goal.invariant-loop-line
 invariant-loop-line g l = record {
   names : l.lines.names.now ≡ l.lists.names.now;
-  printed : ToldSoFar (lists_matches (sought_in l.query) l.lists.names.now
+  printed : ToldSoFar (lists_matches l.lists.rules (sought_in l.query) l.lists.names.now
       (map (λ text. text.items) l.lists.texts.now))
-      (flat_map (line_matches (sought_in l.query) l.lists.names.now) (lines_left l.lines))
+      (flat_map (line_matches l.lists.rules (sought_in l.query) l.lists.names.now) (lines_left l.lines))
       l.initial.output l.output l.printed;
-  told : AnySoFar is_refused (numbered_lines 0 (map (λ text. text.items) l.lists.texts.now))
+  told : AnySoFar (is_refused l.lists.rules) (numbered_lines 0 (map (λ text. text.items) l.lists.texts.now))
       (lines_left l.lines) l.told;
 }
 
