@@ -5,20 +5,20 @@
 #
 # usage: examples/cidr_filter/in_parts.sh OPTION .. < LOG > SELECTED
 #
-# The options are those of cidr_filter, also joined in one word. With `-c` the numbers of the parts
-# are added up. `--bad stop` is refused: a line would end its part only; and so are `-m`, `-l`, `-q`
-# and `-n`. Without GNU parallel, the parts are filtered one after the other. The lists are copied
-# first, so that they may be pipes; the parts are filtered on this machine.
+# The options are those of cidr_filter, also joined in one word. With `-c` the numbers of the
+# parts are added up. `--bad stop` is refused: a line would end its part only; and so are `-m`,
+# `-l`, `-q` and `-n`. Without GNU parallel, the parts of a pipe are filtered one after the other.
+# The lists are copied first, so that they may be pipes; the parts are filtered on this machine.
 #
-# If a line is too long, it is reported with its number in its part; the other parts are filtered all
-# the same, and the status is 2.
+# If a line is too long, it is reported with its number in its part; the other parts are filtered
+# all the same, and the status is 2.
 set -eEu -o pipefail
 . "$(dirname "$0")/../parts.sh" || exit 2
 . "$(dirname "$0")/../log_in_parts.sh"
 . "$(dirname "$0")/../program.sh"
 not_elsewhere
 program=$(program_of cidr_filter)
-valued=" -f -e -k -d -m --nth --after --bad "
+valued=" -f -e -k -d -m --nth --after --bad --read "
 
 counts=
 named=

@@ -1,5 +1,5 @@
 -- Lines that are copied into the output before it is known whether they are selected.
-use Rattle.cidr_filter.proofs.Words.{◌≡◌, ◌↔◌, ℕ, ◌≤◌, ◌∙◌, Bool, true, false, cond, not, List, [], ◌∷◌, length, refl, sym, ap, subst, arith, inl, true≢false, Option, None, Some, IfSome, IsTrue, option_map, beq, option_to_list, IpAddr, Spelled, spelled, part_of, picked_in, each_in, spelled_in, Area, Pick, found_in, IsVerdict, IsVerdictOfAddresses, FirstListed, TellsBlock, addresses_in, is_of, of_family, HasAddress, IsIn, OfForms, address_named, asked, reads_networks, ip_network_of, if◌then◌else◌, ◌&&◌, HasOnly, IsSelectedByAddress, Filter, Matcher, Addresses, Sets}
+use Rattle.cidr_filter.proofs.Words.{◌≡◌, ◌↔◌, ℕ, ◌≤◌, ◌∙◌, Bool, true, false, cond, not, List, [], ◌∷◌, length, refl, sym, ap, subst, arith, inl, true≢false, Option, None, Some, IfSome, IsTrue, option_map, beq, option_to_list, IpAddr, Spelled, spelled, part_of, picked_in, each_in, spelled_in, Area, Pick, found_in, judged, IsVerdict, IsVerdictOfAddresses, FirstListed, TellsBlock, addresses_in, is_of, of_family, HasAddress, IsIn, OfForms, address_named, asked, reads_networks, ip_network_of, if◌then◌else◌, ◌&&◌, HasOnly, IsSelectedByAddress, Filter, Matcher, Addresses, Sets}
 use Rattle.line_addresses.specs.declared.area.Pick.TheVariants as picks
 use Rattle.cidr_filter.specs.declared.filter.Verdict.TheVariants as verdicts
 
@@ -44,19 +44,22 @@ unlike_false : (inverts : Bool) → not (beq false inverts) ≡ inverts
 unlike_false true = refl
 unlike_false false = refl
 
-module _ (filter : Filter) (line : List ℕ) (sets : Sets) (address : IpAddr) (short : length line ≤ 1048576)
-    (is : filter.listed ≡ Addresses sets) (only : HasOnly filter.area line address)
+module _ (filter : Filter) (before : ℕ) (line : List ℕ) (sets : Sets) (address : IpAddr)
+    (short : length line ≤ 1048576) (is : filter.listed ≡ Addresses sets)
+    (only : HasOnly filter.area (judged before line) address)
     (counts : is_of filter.family (asked filter.mapped address) address ≡ true) where
   abbrev one : Spelled
   one = record { text = only.0; address = address }
 
-  alone : addresses_in filter line ≡ one ∷ []
-  alone = ap (of_family filter) (ap (λ (l : Matcher). spelled_in (reads_networks l) filter.area line) is ∙ only.1)
+  alone : addresses_in filter (judged before line) ≡ one ∷ []
+  alone =
+      ap (of_family filter) (ap (λ (l : Matcher). spelled_in (reads_networks l) filter.area (judged before line)) is
+      ∙ only.1)
       ∙ ap (λ b. cond b (one ∷ []) []) (ap (λ (l : Matcher). is_of filter.family
       (if reads_networks l && filter.mapped then address_named address (ip_network_of only.0)
       else asked filter.mapped address) address) is ∙ counts)
 
-  inside : OfForms filter.mapped (HasAddress sets) address → IsVerdict filter line (verdicts.Inside None)
+  inside : OfForms filter.mapped (HasAddress sets) address → IsVerdict filter before line (verdicts.Inside None)
   inside has = (
     short,
     subst (λ (l : List Spelled). FirstListed filter l None) (sym alone)
@@ -66,7 +69,7 @@ module _ (filter : Filter) (line : List ℕ) (sets : Sets) (address : IpAddr) (s
         )),
   )
 
-  outside : ¬ (OfForms filter.mapped (HasAddress sets) address) → IsVerdict filter line verdicts.Outside
+  outside : ¬ (OfForms filter.mapped (HasAddress sets) address) → IsVerdict filter before line verdicts.Outside
   outside none = (
     short,
     subst (λ (l : List Spelled). IsVerdictOfAddresses filter l verdicts.Outside) (sym alone)
@@ -74,7 +77,7 @@ module _ (filter : Filter) (line : List ℕ) (sets : Sets) (address : IpAddr) (s
   )
 
   pub by_address : (is_in : Bool) → IsTrue is_in ↔ OfForms filter.mapped (HasAddress sets) address
-      → IsSelectedByAddress filter line (not (beq is_in filter.inverts))
+      → IsSelectedByAddress filter before line (not (beq is_in filter.inverts))
   by_address true h = (verdicts.Inside None, inside (h.0 refl), refl, (λ seen. refl), unlike_true filter.inverts)
   by_address false h =
       (verdicts.Outside, outside (λ a. true≢false (sym (h.1 a))), refl, (λ seen. refl), unlike_false filter.inverts)

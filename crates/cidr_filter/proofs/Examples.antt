@@ -95,16 +95,16 @@ output_of filter number verdict line = shown filter
     (record { selected = 0; seen = record nothing { lines = number - 1 } }) verdict (content line) (printed line)
 
 pub line_inside : IsListed (by false without.Drop) ten
-    → IsVerdict (by false without.Drop) (codes "10.0.0.1 x") (verdicts.Inside None)
+    → IsVerdict (by false without.Drop) 0 (codes "10.0.0.1 x") (verdicts.Inside None)
 unfolding address_of digits v6_of gap_below
 line_inside listed = (omega arith, inl (listed, refl))
 
 pub line_outside : ¬ (IsListed (by true without.Drop) ten)
-    → IsVerdict (by true without.Drop) (codes "10.0.0.1 x") verdicts.Outside
+    → IsVerdict (by true without.Drop) 0 (codes "10.0.0.1 x") verdicts.Outside
 unfolding address_of digits v6_of gap_below
 line_outside not = (omega arith, (omega arith, (not, tt)))
 
-pub address_in_another_field : IsVerdict (by false without.Drop) (codes "x 10.0.0.1") verdicts.NoAddress
+pub address_in_another_field : IsVerdict (by false without.Drop) 0 (codes "x 10.0.0.1") verdicts.NoAddress
 unfolding address_of digits v6_of gap_below
 address_in_another_field = (omega arith, refl)
 
@@ -156,7 +156,7 @@ pub address_of_a_network : addresses_in (looking anywhere false) (codes "to 10.0
 unfolding address_in behind_word begun_by before_port address_of digits v6_of gap_below
 address_of_a_network = refl
 
--- a network within the block of a list is in the list, with or without host bits; a larger network, one beside the
+-- a network within the block of a list is in the list, with or without host bits; a larger network, one next to the
 -- block, and a text that is not a network are not
 pub networks_covered : map (covers_named (V4 (record { address = 0x0a000000; prefix = 9 }) ∷ []) false)
     (codes "10.1.2.3/9" ∷ codes "10.0.0.0/8" ∷ codes "10.128.0.0/9" ∷ codes "10.0.0.7" ∷ codes "x" ∷ [])
@@ -167,22 +167,22 @@ networks_covered = refl
 -- the second of two addresses is in the lists
 pub second_address_inside : ¬ (IsListed (looking anywhere false) ten)
     → IsListed (looking anywhere false) (record { text = codes "10.0.0.2"; address = addresses.V4 0x0a000002 })
-    → IsVerdict (looking anywhere false) (codes "10.0.0.1 10.0.0.2") (verdicts.Inside None)
+    → IsVerdict (looking anywhere false) 0 (codes "10.0.0.1 10.0.0.2") (verdicts.Inside None)
 unfolding address_in behind_word begun_by before_port address_of digits v6_of gap_below
 second_address_inside not listed = (omega arith, inr (not, inl (listed, refl)))
 
 -- a line of 1,048,576 bytes is not too long, and one of a byte more is
-pub longest_line : (line : List ℕ) → length line ≡ 1048576 → IsVerdict (by false without.Drop) line verdicts.TooLong → ⊥
+pub longest_line : (line : List ℕ) → length line ≡ 1048576 → IsVerdict (by false without.Drop) 0 line verdicts.TooLong → ⊥
 longest_line line e long = omega (arith, e, long)
 
-pub line_too_long : (line : List ℕ) → length line ≡ 1048577 → IsVerdict (by false without.Drop) line verdicts.TooLong
+pub line_too_long : (line : List ℕ) → length line ≡ 1048577 → IsVerdict (by false without.Drop) 0 line verdicts.TooLong
 line_too_long line e = omega (arith, e)
 
 pub too_long_whatever_is_in_it : (line : List ℕ) → length line ≡ 1048577
-    → IsVerdict (by false without.Drop) line verdicts.NoAddress → ⊥
+    → IsVerdict (by false without.Drop) 0 line verdicts.NoAddress → ⊥
 too_long_whatever_is_in_it line e bad = omega (arith, e, bad.0)
 
--- if the block of length 8 is told, the one of length 16 does not contain the address
+-- if the block of length 8 is reported, the one of length 16 does not contain the address
 pub no_longer_block : (tables : Tables) (address : IpAddr) → let wide =
     V4 (record { address = 167772160; prefix = 8 }) in let narrow = V4 (record { address = 167772160; prefix = 16 }) in
     IsLongestBlock tables address wide → IsStored tables narrow → IpMember narrow address → ⊥
@@ -273,7 +273,7 @@ any_log_named name other = rw other
 pub no_log_named : (name : List ℕ) → label_of false name ≡ []
 no_log_named name = refl
 
--- with `-o`, only the addresses that are in the lists, whatever is beside them: 10.0.0.0/8 contains the first and third
+-- with `-o`, only the addresses that are in the lists, whatever is around them: 10.0.0.0/8 contains the first and third
 abbrev pub addresses_of_ten : Filter
 addresses_of_ten = record (looking anywhere false) {
   listed = Addresses (record { v4 = record { address = 0x0a000000; prefix = 8 } ∷ []; v6 = [] });

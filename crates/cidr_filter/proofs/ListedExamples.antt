@@ -88,7 +88,7 @@ pub mapped_of_v6 : map (λ mapped. counts (record (v4_only (Addresses (one_v6 0 
     (codes "::ffff:10.0.0.186")) (true ∷ false ∷ []) ≡ true ∷ true ∷ []
 mapped_of_v6 = refl
 
--- if `::/0` is told for `::ffff:10.0.0.1`, the list does not have `10.0.0.0/8`
+-- if `::/0` is reported for `::ffff:10.0.0.1`, the list does not have `10.0.0.0/8`
 pub v4_block_first : (tables : Tables)
     → IsToldBlock tables true (addresses.V6 0xffff0a000001) (V6 (record { address = 0; prefix = 0 }))
     → IsStored tables (V4 (record { address = 0x0a000000; prefix = 8 })) → ⊥

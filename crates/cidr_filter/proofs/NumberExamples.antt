@@ -42,8 +42,8 @@ pub no_number_unasked : (number : ℕ) → number_head false number ≡ []
 no_number_unasked number = refl
 
 -- every line has a number, selected or not
-pub second_line : IsVerdict numbering (codes "11.0.0.1") verdicts.Outside
-    → IsVerdict numbering (codes "10.0.0.1") (verdicts.Inside None)
+pub second_line : IsVerdict numbering 0 (codes "11.0.0.1") verdicts.Outside
+    → IsVerdict numbering 1 (codes "10.0.0.1") (verdicts.Inside None)
     → Filters false numbering fresh (ended (codes "11.0.0.1") ∷ ended (codes "10.0.0.1") ∷ []) (codes "2:10.0.0.1\n")
     (Some (tally_with numbering (tally_with numbering fresh verdicts.Outside) (verdicts.Inside None)))
 unfolding digits
@@ -69,7 +69,7 @@ second_line outside inside = inr (inr (
 
 -- with `-m 1` nothing is looked at after the first selected line
 pub left_at_one : (line : LogLine) (lines : List LogLine)
-    → IsVerdict (record numbering { most = Some 1 }) (codes "10.0.0.1") (verdicts.Inside None)
+    → IsVerdict (record numbering { most = Some 1 }) 0 (codes "10.0.0.1") (verdicts.Inside None)
     → Filters false (record numbering { most = Some 1 }) fresh (ended (codes "10.0.0.1") ∷ line ∷ lines)
     (codes "1:10.0.0.1\n")
     (Some (tally_with numbering fresh (verdicts.Inside None)))
@@ -85,7 +85,7 @@ left_at_one line lines inside = inr (inr (
 ))
 
 -- a line that ends the run prints nothing, nor does one after it
-pub ends_the_run : (lines : List LogLine) → IsVerdict (record numbering { bad = without.Stop }) (codes "x")
+pub ends_the_run : (lines : List LogLine) → IsVerdict (record numbering { bad = without.Stop }) 0 (codes "x")
     verdicts.NoAddress
     → Filters false (record numbering { bad = without.Stop }) fresh (ended (codes "x") ∷ lines) [] None
 ends_the_run lines none = inr (inr (

@@ -53,11 +53,12 @@ pub use Rattle.lists.specs.KnownLists.{KnownLists}
 pub use Rattle.lists.specs.Lists.{ReadLists, nothing_read}
 pub use Rattle.lists.specs.Refusals.{Refused, no_refusals}
 pub use Rattle.lists.specs.declared.named.ReadFault.{ReadFault}
-pub use Rattle.log_programs.proofs.Handed.{handed_out}
+pub use Rattle.log_programs.proofs.ReturnedLines.{handed_out}
 pub use Rattle.log_programs.proofs.InTurn.{full_here}
 pub use Rattle.log_programs.proofs.LogPrints.{after_line, after_long, begins, breaks, line_stops, log_ends, log_left, long_stops, unwritten}
 pub use Rattle.log_programs.proofs.LogsInTurn.{log_more, log_stops, logs_begin, logs_end, name_next, name_within, then_stopped, log_cut}
 pub use Rattle.log_programs.specs.Areas.{area_of}
+pub use Rattle.log_programs.specs.ByteOrderMarks.{judged}
 pub use Rattle.log_programs.specs.Finding.{found_in}
 pub use Rattle.log_programs.specs.LogReads.{PrintsLog, PrintsSoFar, StopsLine, TakesLine, is_cut}
 pub use Rattle.log_programs.specs.LogsInTurn.{LogsSoFar, StopsLog, TakesLog}

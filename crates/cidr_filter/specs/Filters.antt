@@ -11,6 +11,7 @@ use Rattle.ipnetwork.specs.declared.ip_network.IpNetwork.{IpNetwork}
 use Rattle.line_addresses.specs.Addresses.{Spelled}
 use Rattle.line_addresses.specs.Areas.{spelled_in}
 use Rattle.program.specs.LogLines.{LogLine}
+use Rattle.log_programs.specs.ByteOrderMarks.{judged}
 use Rattle.log_programs.specs.InTurn.{Ends, InTurn}
 use Rattle.log_programs.specs.LogReads.{OfLine}
 use Rattle.log_programs.specs.LogStats.{nothing, with_line, with_long}
@@ -34,7 +35,7 @@ use Rattle.cidr_filter.specs.declared.matcher.Matcher.TheVariants.{Addresses, Ne
 abbrev pub IsListed : Filter → Spelled → Type 0
 IsListed filter found = IsIn filter.listed filter.mapped found
 
--- what is told about an address in the lists: nothing, or, with `--longest`, the longest block that contains it
+-- what is reported about an address in the lists: nothing, or, with `--longest`, the longest block that contains it
 abbrev pub TellsBlock : Matcher → Bool → IpAddr → Option IpNetwork → Type 0
 TellsBlock (Addresses sets) mapped address told = told ≡ None
 TellsBlock (Networks set) mapped address told = told ≡ None
@@ -48,7 +49,7 @@ abbrev pub is_v4 : IpAddr → Bool
 is_v4 (addresses.V4 address) = true
 is_v4 (addresses.V6 address) = false
 
--- an address counts, of which `first` is looked up first: with `-4` by that one, with `-6` as it stands, so that an
+-- an address counts, of which `first` is looked up first: with `-4` by that one, with `-6` as it is, so that an
 -- IPv4-mapped one counts as both with `--mapped`
 abbrev pub is_of : Family → IpAddr → IpAddr → Bool
 is_of families.Either first address = true
@@ -76,7 +77,7 @@ sought_in filter line = spelled_in (reads_networks filter.listed) filter.area li
 abbrev pub addresses_in : Filter → List ℕ → List Spelled
 addresses_in filter line = of_family filter (sought_in filter line)
 
--- one of the addresses is in the lists, and `told` is what is told about the first that is
+-- one of the addresses is in the lists, and `told` is what is reported about the first that is
 abbrev pub FirstListed : Filter → List Spelled → Option IpNetwork → Type 0
 FirstListed filter [] told = ⊥
 FirstListed filter (address ∷ addresses) told =
@@ -94,15 +95,16 @@ IsVerdictOfAddresses filter addresses verdicts.Outside = (0 < length addresses) 
 IsVerdictOfAddresses filter addresses verdicts.NoAddress = addresses ≡ []
 IsVerdictOfAddresses filter addresses verdicts.TooLong = ⊥
 
--- the verdict on a line, given without its end. A line of more than 1,048,576 bytes is too long, whatever is in it
-abbrev pub IsVerdict : Filter → List ℕ → Verdict → Type 0
-IsVerdict filter line (verdicts.Inside told) = (length line ≤ 1048576)
-    × IsVerdictOfAddresses filter (addresses_in filter line) (verdicts.Inside told)
-IsVerdict filter line verdicts.Outside = (length line ≤ 1048576)
-    × IsVerdictOfAddresses filter (addresses_in filter line) verdicts.Outside
-IsVerdict filter line verdicts.NoAddress = (length line ≤ 1048576)
-    × IsVerdictOfAddresses filter (addresses_in filter line) verdicts.NoAddress
-IsVerdict filter line verdicts.TooLong = 1048576 < length line
+-- the verdict on a line, given without its end, if so many lines of its log come before it. A line of more than
+-- 1,048,576 bytes is too long, whatever is in it
+abbrev pub IsVerdict : Filter → ℕ → List ℕ → Verdict → Type 0
+IsVerdict filter before line (verdicts.Inside told) = (length line ≤ 1048576)
+    × IsVerdictOfAddresses filter (addresses_in filter (judged before line)) (verdicts.Inside told)
+IsVerdict filter before line verdicts.Outside = (length line ≤ 1048576)
+    × IsVerdictOfAddresses filter (addresses_in filter (judged before line)) verdicts.Outside
+IsVerdict filter before line verdicts.NoAddress = (length line ≤ 1048576)
+    × IsVerdictOfAddresses filter (addresses_in filter (judged before line)) verdicts.NoAddress
+IsVerdict filter before line verdicts.TooLong = 1048576 < length line
 
 -- lines without an address are selected
 abbrev pub is_kept : WithoutAddress → Bool
@@ -148,7 +150,7 @@ is_listed (Addresses sets) mapped found = has_form sets mapped found.address
 is_listed (Networks set) mapped found = covers_named set mapped found.text
 is_listed (Blocks tables) mapped found = false
 
--- the byte behind the name of a log: with `-Z` NUL, else a colon (58) or a line feed (10)
+-- the byte after the name of a log: with `-Z` NUL, else a colon (58) or a line feed (10)
 abbrev pub behind_name : Bool → ℕ → ℕ
 behind_name nul other = if nul then 0 else other
 
@@ -180,7 +182,7 @@ abbrev pub is_count : OutputMode → Bool
 is_count shows.Count = true
 is_count other = false
 
--- what is printed for a selected line; `line` is the line without its end, `text` as it is printed:
+-- what is printed for a selected line; `line` is the part of it that is judged, `text` the line as it is printed:
 -- the head, the mark and the line; with `-o`, its addresses that are in the lists, each after the
 -- head; with `-l`, the name of its log, and a line feed or with `-Z` NUL; with `-c` and with `-q`, nothing
 abbrev pub shown_by : OutputMode → Filter → List ℕ → Verdict → List ℕ → List ℕ → List ℕ
@@ -216,7 +218,8 @@ tally_with filter tally verdict = counted tally verdict (is_selected filter verd
 -- it without its end, `text` as it is printed
 abbrev pub shown : Filter → Tally → Verdict → List ℕ → List ℕ → List ℕ
 shown filter tally verdict line text = if is_selected filter verdict
-    then shown_of filter (head_of filter (tally_with filter tally verdict).seen.lines) verdict line text else []
+    then shown_of filter (head_of filter (tally_with filter tally verdict).seen.lines) verdict
+    (judged tally.seen.lines line) text else []
 
 -- nothing is printed, and the run ends at the first selected line
 abbrev pub is_silent : OutputMode → Bool
@@ -231,7 +234,8 @@ is_spent (Some most) selected = nat_le most selected
 -- what the next line prints, and the counts with it, or `None` if it ends the run; those before it have the counts
 -- `tally`; `line` is it without its end, `text` as it is printed
 abbrev pub FiltersLine : Filter → Tally → List ℕ → List ℕ → List ℕ → Option Tally → Type 0
-FiltersLine filter tally line text output next = (verdict : Verdict) × IsVerdict filter line verdict
+FiltersLine filter tally line text output next = (verdict : Verdict)
+    × IsVerdict filter tally.seen.lines line verdict
     × (((is_refused filter verdict ≡ true) × Ends None output next)
     ⊎ ((is_refused filter verdict ≡ false) × (output ≡ shown filter tally verdict line text)
     × (next ≡ Some (tally_with filter tally verdict))))

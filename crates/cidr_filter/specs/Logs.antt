@@ -41,7 +41,7 @@ abbrev pub both : Outcome → Outcome → Outcome
 both total one =
     record { selected = min (total.selected + one.selected) (2 ^ 64 - 1); missed = total.missed || one.missed }
 
--- the count behind the lines of a log, unless one of these ended the run, and what the logs up to it come to; if the
+-- the count after the lines of a log, unless one of these ended the run, and what the logs up to it come to; if the
 -- count cannot be written (`cut`), that ends the run
 abbrev pub CountsLog : Filter → Bool → Outcome → List ℕ → List ℕ → Option Tally → List ℕ → Option Outcome → Type 0
 CountsLog filter cut total name added None text next = (text ≡ added) × (next ≡ None)

@@ -1,17 +1,19 @@
 -- How the lists are read.
-use Rattle.std.specs.Prelude.{◌≡◌, ℕ, ◌+◌, ◌==◌, false, List, [], ◌∷◌, ◌⊎◌, if◌then◌else◌}
+use Rattle.std.specs.Prelude.{◌≡◌, ℕ, ◌+◌, ◌==◌, false, List, [], ◌∷◌, ◌⊎◌, bytes_eq, codes, if◌then◌else◌}
 use Rattle.std.specs.Str.Lines.{lines}
 use Rattle.ipnetwork_blocks.specs.Aggregate.{IsAggregate}
 use Rattle.lists.specs.Lists.{ReadLists, nothing_read, at_list, TakesLines}
 use Rattle.lists.specs.Refusals.{Refused, no_refusals}
 use Rattle.lists.specs.KnownLists.{KnownLists}
 use Rattle.lists.specs.Reading.{ReadsList, StopsAt, StopsAtText}
+use Rattle.lists.specs.declared.forms.LineForm.{LineForm}
+use Rattle.lists.specs.declared.forms.LineForm.TheVariants as forms
 use Rattle.lists.specs.declared.named.ReadFault.{ReadFault}
 use Rattle.lists.specs.declared.rules.Rules.{Rules}
 use Rattle.log_programs.specs.Rows as rows
 use Rattle.ipnetwork_family.specs.Network.{Network}
 use Rattle.ipnetwork_sets.specs.IpSets.{v4_then_v6}
-use Rattle.options.specs.Given.{is_given}
+use Rattle.options.specs.Given.{is_given, value_of}
 use Rattle.options.specs.declared.items.Item.{Item}
 use Rattle.options.specs.declared.items.Item.TheVariants as says
 use Rattle.cidr_filter.specs.Matcher.{HasBlocksOf}
@@ -69,13 +71,19 @@ StopsAtItems known number (item ∷ items) before fault refused =
     ⊎ ((between : ReadLists) × ReadsItem known number item before between × (between.is_out_of_memory ≡ false)
     × StopsAtItems known (number + 1) items between fault refused)
 
+-- the form of lists that a text names, or their own if it names none
+abbrev pub form_called : List ℕ → LineForm
+form_called text = if bytes_eq text (codes "csv") then forms.Csv else if bytes_eq text (codes "ipset") then forms.Ipset
+    else if bytes_eq text (codes "nft") then forms.Nft else forms.Plain
+
 -- the rules of the lists: with `--strict`, host bits are refused; with `--whole`, lists that do not end with a line
--- feed; with `--masks`, a mask or wildcard may be a second word
+-- feed; with `--masks`, a mask or wildcard may be a second word; with `--read`, lines are in the form that it names
 abbrev pub rules_of : List Item → Rules
 rules_of items = record {
   refuses_host_bits = is_given items own.strict;
   is_whole = is_given items own.whole;
   takes_masks = is_given items own.masks;
+  form = form_called (value_of items own.read);
 }
 
 -- the lists of a command line were read, and memory did not run out

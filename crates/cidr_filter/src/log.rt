@@ -16,6 +16,7 @@ use crate::recent::Recent;
 use lines::line_end::LineEnd;
 use lines::output::Output;
 use lines::watched::Watched;
+use log_programs::byte_order_mark::judged;
 use log_programs::log_stats::LogStats;
 use program::log_fault::LogFault;
 use program::log_reader::{LogReader, NextLogLine};
@@ -139,7 +140,7 @@ fn filter_line<W: Write>(
         output.old tally.old output.new) }
 {
     if is_copied && has_feed(end) {
-        if let Some(is_selected) = filter.selects_by_address(line) {
+        if let Some(is_selected) = filter.selects_by_address(line, tally.seen.lines) {
             return pass_line(is_selected, whole, output, tally);
         }
     }
@@ -192,7 +193,8 @@ fn filter_judged<W: Write>(
     ensures err { IfErr result (LineStops filter.now line.now (whole.now ++ feed_behind end)
         output.old tally.old output.new) }
 {
-    let verdict = filter.judge(line);
+    let before = tally.seen.lines;
+    let verdict = filter.judge(line, before);
     if filter.refuses(&verdict) {
         return match verdict {
             Verdict::TooLong => Err(LogFault::Length),
@@ -204,7 +206,8 @@ fn filter_judged<W: Write>(
     if !is_selected {
         return Ok(());
     }
-    match print_selected(filter, tally.seen.lines, &verdict, line, whole, end, output) {
+    let part = judged(line, before);
+    match print_selected(filter, tally.seen.lines, &verdict, part, whole, end, output) {
         Ok(()) => Ok(()),
         Err(_) => Err(LogFault::Write),
     }

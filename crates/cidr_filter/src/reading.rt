@@ -3,16 +3,16 @@ ghost use Rattle.std.specs.Prelude.{◌≡◌, false, OnOk, IfOk, IfErr};
 ghost use Rattle.ipnetwork_blocks.specs.Aggregate.{IsAggregate};
 ghost use Rattle.lists.specs.Lists.{nothing_read};
 ghost use Rattle.lists.specs.Refusals.{no_refusals};
-ghost use Rattle.cidr_filter.specs.Reading.{question_of, rules_of, source_by, source_of, ReadsItem, ReadsItems, StopsAtItem, StopsAtItems, HoldsRead};
+ghost use Rattle.cidr_filter.specs.Reading.{form_called, question_of, rules_of, source_by, source_of, ReadsItem, ReadsItems, StopsAtItem, StopsAtItems, HoldsRead};
 ghost use Rattle.cidr_filter.specs.Private.Reading.{ReadsAll, HasSets, HasBlocks};
 
 use crate::matcher::{Matcher, Sets, Tables};
-use crate::rows::{LONGEST, MASKS, NETWORKS, STRICT, TEXT, WHOLE};
+use crate::rows::{LONGEST, MASKS, NETWORKS, READ, STRICT, TEXT, WHOLE};
 use ipnetwork::{Ipv4Network, Ipv6Network};
 use ipnetwork_sets::{AddressSet, IpAddressSet};
-use lists::{ListReader, OpenLists, ReadFault, Refusals, Rules, read_named, read_text};
+use lists::{LineForm, ListReader, OpenLists, ReadFault, Refusals, Rules, read_named, read_text};
 use log_programs::rows::LIST;
-use options::given::is_given;
+use options::given::{is_given, value_of};
 use options::items::{Item, Text};
 use std::alloc::{AllocError, Global};
 
@@ -52,7 +52,8 @@ pub(crate) fn question_of(items: &[Item<'_>]) -> Question
 }
 
 /// Returns the rules of the lists: with `--strict`, host bits are refused; with `--whole`, lists
-/// that do not end with a line feed; with `--masks`, a mask or wildcard may be a second word.
+/// that do not end with a line feed; with `--masks`, a mask or wildcard may be a second word; with
+/// `--read`, lines are in the form that it names.
 fn rules_of(items: &[Item<'_>]) -> Rules
     ensures { result ≡ rules_of items.now }
 {
@@ -60,6 +61,19 @@ fn rules_of(items: &[Item<'_>]) -> Rules
         refuses_host_bits: is_given(items, STRICT),
         is_whole: is_given(items, WHOLE),
         takes_masks: is_given(items, MASKS),
+        form: form_called(value_of(items, READ)),
+    }
+}
+
+// Returns the form of lists that a text names, or their own if it names none.
+fn form_called(text: &str) -> LineForm
+    ensures { result ≡ form_called text.now }
+{
+    match text {
+        "csv" => LineForm::Csv,
+        "ipset" => LineForm::Ipset,
+        "nft" => LineForm::Nft,
+        _ => LineForm::Plain,
     }
 }
 

@@ -6,6 +6,7 @@ use crate::matcher::{Matcher, asked};
 use crate::networks::{address_named, covers};
 use fosibegan_core::ipnetwork::{IpAddr, IpNetwork};
 use cidr_programs::line_addresses::{Area, Found, Pick, Text, next_found, part_of, picked};
+use cidr_programs::log_programs::byte_order_mark::judged;
 use cidr_programs::log_programs::finding::found_in;
 use cidr_programs::log_programs::without_address::WithoutAddress;
 use cidr_programs::program::log_reader::LINE_MAX;
@@ -76,27 +77,29 @@ pub struct Filter<'a> {
 }
 
 impl Filter<'_> {
-    /// Returns the verdict on a line, given without its end. Does not allocate.
+    /// Returns the verdict on a line, given without its end, if `before` lines of its log come
+    /// before it. Does not allocate.
     #[inline(always)]
-    pub(crate) fn judge(&self, line: &[u8]) -> Verdict {
+    pub(crate) fn judge(&self, line: &[u8], before: u64) -> Verdict {
         if line.len() > LINE_MAX {
             return Verdict::TooLong;
         }
-        self.judge_within(line)
+        self.judge_within(judged(line, before))
     }
 
     /// Returns whether a line is selected, if it is not too long and has the one address that is
     /// looked for. The code does not branch on the result, so the processor cannot mispredict it.
-    /// Returns `None` for any other line, and with `--networks` or `--longest`.
+    /// Returns `None` for any other line, and with `--networks` or `--longest`. `before` lines of
+    /// its log come before the line.
     #[inline(always)]
-    pub(crate) fn selects_by_address(&self, line: &[u8]) -> Option<bool> {
+    pub(crate) fn selects_by_address(&self, line: &[u8], before: u64) -> Option<bool> {
         if line.len() > LINE_MAX {
             return None;
         }
         let Matcher::Addresses(sets) = &self.listed else {
             return None;
         };
-        match self.only_address(line) {
+        match self.only_address(judged(line, before)) {
             Some(address) => Some(sets.has_form(address, self.mapped) != self.inverts),
             None => None,
         }
@@ -218,7 +221,7 @@ impl Filter<'_> {
         }
     }
 
-    // Returns what is told about an address or network of a line, if it is in the list.
+    // Returns what is reported about an address or network of a line, if it is in the list.
     #[inline(always)]
     fn told_of(&self, line: &[u8], found: &Found) -> Option<Option<IpNetwork>> {
         match &self.listed {

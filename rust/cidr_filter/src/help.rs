@@ -17,8 +17,10 @@ Prints the lines of logs whose address is in a list of IP networks.
     --strict        refuse entries of the lists with host bits (10.0.0.5/8)
     --whole         refuse a list that does not end with a line feed, as it may have been cut off;
                     a list without any byte is such a list
-    --masks         entries of the lists may also be an IPv4 address and, behind blanks, its mask or
+    --masks         entries of the lists may also be an IPv4 address and, after blanks, its mask or
                     wildcard (10.0.0.0 255.0.0.0, 10.0.0.0 0.255.255.255)
+    --read FORM     the lists are as cidr_merge --format FORM prints them: csv, ipset or nft; any
+                    other line is refused, also a comment. Not with --masks or -e
     --skip-bad      report refused lines of the lists and use the others; without this option, a
                     refused line ends the program before any log is read",
     "
@@ -51,7 +53,7 @@ Prints the lines of logs whose address is in a list of IP networks.
     -n              begin each line with its number in its FILE and a colon, after the name that -H
                     prints; with -o, each address
     -h              print no names (the default, except for -c with several FILEs)
-    -Z              put a NUL byte behind each name of a FILE that is printed, in place of the colon
+    -Z              put a NUL byte after each name of a FILE that is printed, in place of the colon
                     or, with -l, of the line feed
     --longest       begin each line with the longest network that has its address (with -a, the
                     first of its addresses that is in one), and a tab; a range counts as the fewest
@@ -98,4 +100,4 @@ pub(crate) const USAGE: &str =
     "usage: cidr_filter [-v] [-c] [-H | -h] [-n] [-l] [-Z] [-q] [-o] [-m N] \
      [--after TEXT | [-a] [-k N] [-d CHAR | -w]] [--nth first|last|N] [-4 | -6] [--mapped] \
      [--networks] [--bad drop|keep|stop|report] [--longest] [--strict] [--whole] \
-     [--masks] [--skip-bad] (-f LIST | -e TEXT).. [FILE..]; try --help\n";
+     [--masks | --read csv|ipset|nft] [--skip-bad] (-f LIST | -e TEXT).. [FILE..]; try --help\n";

@@ -8,6 +8,7 @@ use crate::recent::Recent;
 use cidr_programs::lines::line_end::LineEnd;
 use cidr_programs::lines::output::Output;
 use cidr_programs::lines::watched::Watched;
+use cidr_programs::log_programs::byte_order_mark::judged;
 use cidr_programs::log_programs::log_stats::LogStats;
 use cidr_programs::program::log_fault::LogFault;
 use cidr_programs::program::log_reader::{LogReader, NextLogLine};
@@ -112,7 +113,7 @@ fn filter_line<W: Write>(
     tally: &mut Tally,
 ) -> Result<(), LogFault> {
     if is_copied && has_feed(end) {
-        if let Some(is_selected) = filter.selects_by_address(line) {
+        if let Some(is_selected) = filter.selects_by_address(line, tally.seen.lines) {
             return pass_line(is_selected, whole, output, tally);
         }
     }
@@ -152,7 +153,8 @@ fn filter_judged<W: Write>(
     output: &mut Output<'_, W>,
     tally: &mut Tally,
 ) -> Result<(), LogFault> {
-    let verdict = filter.judge(line);
+    let before = tally.seen.lines;
+    let verdict = filter.judge(line, before);
     if filter.refuses(&verdict) {
         return match verdict {
             Verdict::TooLong => Err(LogFault::Length),
@@ -164,7 +166,8 @@ fn filter_judged<W: Write>(
     if !is_selected {
         return Ok(());
     }
-    match print_selected(filter, tally.seen.lines, &verdict, line, whole, end, output) {
+    let part = judged(line, before);
+    match print_selected(filter, tally.seen.lines, &verdict, part, whole, end, output) {
         Ok(()) => Ok(()),
         Err(_) => Err(LogFault::Write),
     }

@@ -54,7 +54,7 @@ fn put_total<W: Write>(number: u64, output: &mut Output<'_, W>) -> Result<(), Ru
     put_both(number_text(number).as_bytes(), b"\n", output)
 }
 
-/// Returns the byte behind the name of a log: NUL if `nul`, else the other.
+/// Returns the byte after the name of a log: NUL if `nul`, else the other.
 pub(crate) fn behind_name(nul: bool, other: u8) -> u8 {
     if nul { 0 } else { other }
 }

@@ -14,8 +14,8 @@ use cidr_programs::program::log_reader::put_feed;
 use cidr_programs::program::putting::put_both;
 use fosibegan_core::plain_std::io::Write;
 
-/// Writes what is printed for the selected line with this number and verdict. `line` is the line
-/// without its end, `whole` with it.
+/// Writes what is printed for the selected line with this number and verdict. `line` is the part of
+/// it that is judged, `whole` the line with its end.
 pub(crate) fn print_selected<W: Write>(
     filter: &Filter,
     number: u64,

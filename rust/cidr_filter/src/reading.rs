@@ -4,14 +4,14 @@
 
 use fosibegan_core::plain_std::vec::Vec;
 use crate::matcher::{Matcher, Sets, Tables};
-use crate::rows::{LONGEST, MASKS, NETWORKS, STRICT, TEXT, WHOLE};
+use crate::rows::{LONGEST, MASKS, NETWORKS, READ, STRICT, TEXT, WHOLE};
 use fosibegan_core::ipnetwork::{Ipv4Network, Ipv6Network};
 use fosibegan_core::ipnetwork_sets::{AddressSet, IpAddressSet};
 use cidr_programs::lists::{
-    ListReader, OpenLists, ReadFault, Refusals, Rules, read_named, read_text,
+    LineForm, ListReader, OpenLists, ReadFault, Refusals, Rules, read_named, read_text,
 };
 use cidr_programs::log_programs::rows::LIST;
-use cidr_programs::options::given::is_given;
+use cidr_programs::options::given::{is_given, value_of};
 use cidr_programs::options::items::{Item, Text};
 use fosibegan_core::plain_std::alloc::{AllocError, Global};
 
@@ -49,12 +49,24 @@ pub(crate) fn question_of(items: &[Item<'_>]) -> Question {
 }
 
 /// Returns the rules of the lists: with `--strict`, host bits are refused; with `--whole`, lists
-/// that do not end with a line feed; with `--masks`, a mask or wildcard may be a second word.
+/// that do not end with a line feed; with `--masks`, a mask or wildcard may be a second word; with
+/// `--read`, lines are in the form that it names.
 fn rules_of(items: &[Item<'_>]) -> Rules {
     Rules {
         refuses_host_bits: is_given(items, STRICT),
         is_whole: is_given(items, WHOLE),
         takes_masks: is_given(items, MASKS),
+        form: form_called(value_of(items, READ)),
+    }
+}
+
+// Returns the form of lists that a text names, or their own if it names none.
+fn form_called(text: &str) -> LineForm {
+    match text {
+        "csv" => LineForm::Csv,
+        "ipset" => LineForm::Ipset,
+        "nft" => LineForm::Nft,
+        _ => LineForm::Plain,
     }
 }
 

@@ -67,8 +67,11 @@ pub(crate) const WHOLE: usize = 28;
 /// The row of `--masks`.
 pub(crate) const MASKS: usize = 29;
 
+/// The row of `--read`.
+pub(crate) const READ: usize = 30;
+
 // The options.
-const ROWS: [Row; 31] = log_rows![
+const ROWS: [Row; 32] = log_rows![
     letter!(b'e', Text, "not a network or range"),
     letter!(b'm', Number, "not a number of lines"),
     long!("--longest", Flag, false, ""),
@@ -89,10 +92,11 @@ const ROWS: [Row; 31] = log_rows![
     long!("--strict", Flag, false, ""),
     long!("--whole", Flag, false, ""),
     long!("--masks", Flag, false, ""),
+    long!("--read", Form, true, "not csv, ipset or nft"),
 ];
 
 // The options that may not be given together.
-const PAIRS: [Pair; 16] = log_pairs![
+const PAIRS: [Pair; 19] = log_pairs![
     [
         pair!(LONGEST, INVERTS, "--longest goes with neither -v nor -c"),
         pair!(LONGEST, COUNTS, "--longest goes with neither -v nor -c"),
@@ -111,6 +115,9 @@ const PAIRS: [Pair; 16] = log_pairs![
         pair!(ONLY_V4, AFTER, "-4 goes with none of -6, --nth and --after"),
         pair!(ONLY_V6, NTH, "-6 goes with none of -4, --nth and --after"),
         pair!(ONLY_V6, AFTER, "-6 goes with none of -4, --nth and --after"),
+        pair!(READ, READ, "--read is given more than once"),
+        pair!(READ, MASKS, "--read goes with neither --masks nor -e"),
+        pair!(READ, TEXT, "--read goes with neither --masks nor -e"),
     ],
 ];
 

@@ -91,7 +91,7 @@ fn filter_files<L: OpenLists, W: Write, E: Write>(
     let (listed, refusals, read) = read_listed(alloc, lists, items, question);
     tell_refusals(PROGRAM, names, &InOptions { items }, &refusals, errors);
     if let Err(fault) = read {
-        tell_fault(PROGRAM, names, fault, errors);
+        tell_fault(PROGRAM, names, &[], fault, errors);
         return FAILED;
     }
     if is_stopped_by(items, &refusals) {

@@ -10,21 +10,21 @@ use Rattle.program.specs.declared.log_fault.LogFault.TheVariants as faults
 
 -- the line does not end the run, and was filtered
 abbrev pub PassesLine : {W : Type 0} → Filter → List ℕ → List ℕ → Written W → Tally → Written W → Tally → Type 0
-PassesLine filter line text old was new is = (verdict : Verdict) × IsVerdict filter line verdict
+PassesLine filter line text old was new is = (verdict : Verdict) × IsVerdict filter was.seen.lines line verdict
     × (is_refused filter verdict ≡ false) × Prints old new (shown filter was verdict line text)
     × (is ≡ tally_with filter was verdict)
 
 -- the line ends the run
-abbrev pub RefusesLine : {W : Type 0} → Filter → List ℕ → Written W → Written W → Type 0
-RefusesLine filter line old new = (verdict : Verdict) × IsVerdict filter line verdict
+abbrev pub RefusesLine : {W : Type 0} → Filter → List ℕ → Written W → Tally → Written W → Type 0
+RefusesLine filter line old was new = (verdict : Verdict) × IsVerdict filter was.seen.lines line verdict
     × (is_refused filter verdict ≡ true) × (new ≡ old)
 
 -- the line stops the filtering by this fault
 abbrev pub LineStops : {W : Type 0} → Filter → List ℕ → List ℕ → Written W → Tally → Written W → LogFault → Type 0
 LineStops filter line text old was new faults.Read = ⊥
 LineStops filter line text old was new faults.Write = IsTrue new.failed × (verdict : Verdict)
-    × IsVerdict filter line verdict × (is_refused filter verdict ≡ false)
+    × IsVerdict filter was.seen.lines line verdict × (is_refused filter verdict ≡ false)
     × FailsIn old new (shown filter was verdict line text)
-LineStops filter line text old was new faults.Address = RefusesLine filter line old new
-LineStops filter line text old was new faults.Length = RefusesLine filter line old new
+LineStops filter line text old was new faults.Address = RefusesLine filter line old was new
+LineStops filter line text old was new faults.Length = RefusesLine filter line old was new
 LineStops filter line text old was new faults.Endless = ⊥
