@@ -1,5 +1,5 @@
 #!/usr/bin/env python3
-"""Joins a large log on the workers of dask, on one machine or on many: it is cut behind line feeds, and each part is
+"""Joins a large log on the workers of dask, on one machine or on many: it is cut after line feeds, and each part is
 joined by itself. What is printed is that of the whole log, which is tested (`tests/in_parts`) and not proved.
 
     examples/cidr_join/by_dask.py [--scheduler ADDRESS] [--block BYTES] OPTION.. < LOG > JOINED
@@ -71,7 +71,7 @@ def list_of_parts(name, folder):
 
 def checked(words, folder):
     """The words for a part, and whether a tally is asked for. The lists are copied into this folder, if there is one, and
-    read once before the log, so that what is refused of them is told once."""
+    read once before the log, so that what is refused of them is reported once."""
     asked = list(options(words))
     if ["--bad", "stop"] in asked or ["--bad=stop"] in asked:
         refuse("--bad stop: a line would end its part only")
@@ -85,7 +85,7 @@ def checked(words, folder):
 
 
 def parts(log, size):
-    """The log, cut behind line feeds: so many bytes, and the rest of a line. An empty one is one part."""
+    """The log, cut after line feeds: so many bytes, and the rest of a line. An empty one is one part."""
     yield log.read(size) + log.readline()
     while block := log.read(size):
         yield block + log.readline()

@@ -1,14 +1,14 @@
 #!/usr/bin/env bash
-# Joins a large log by several processes: it is cut behind line feeds, and each part is joined by itself. What is printed
+# Joins a large log by several processes: it is cut after line feeds, and each part is joined by itself. What is printed
 # is that of the whole log, which is tested (`tests/in_parts`) and not proved.
 #
 # usage: examples/cidr_join/in_parts.sh OPTION .. < LOG > JOINED
 #
 # The options are those of cidr_join, also joined in one word. With `--tally` the counts of the parts are added up, of
-# each text, and printed most first, those of one count in the order of the bytes of the texts. Without GNU parallel, the
-# parts are joined one after the other. With PARALLEL='--sshlogin ONE,TWO' they go to these machines, which need the
-# program and the list, a regular file, at the same path; else the lists are copied first, so that they may be pipes.
-# `--bad stop` is refused: a line would end its part only.
+# each text, and printed most first, those of one count in the order of the bytes of the texts. Without GNU parallel,
+# the parts of a pipe are joined one after the other. With PARALLEL='--sshlogin ONE,TWO' they go to these machines,
+# which need the program and the list, a regular file, at the same path; else the lists are copied first, so that they
+# may be pipes. `--bad stop` is refused: a line would end its part only.
 #
 # If a line is too long, it is reported with its number in its part; the other parts are joined all the same, and the
 # status is 2. With `--skip-bad` the refused lines of the list are reported for each part.

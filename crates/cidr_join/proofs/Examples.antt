@@ -1,5 +1,5 @@
 -- Values at which a misreading of the definitions would show.
-use Rattle.cidr_join.proofs.Words.{◌≡◌, ◌^◌, ◌+◌, ◌∷◌, [], map, Bool, true, false, refl, codes, None, digits, only, WithoutAddress, block_in, is_left_out, is_refused, mark_of, shown_of, entries, pairs, lacks_tally, row_text, are_right_by, free_items, free_mode, rows_of, pairs_of, Value}
+use Rattle.cidr_join.proofs.Words.{◌≡◌, ◌^◌, ◌+◌, ◌∷◌, [], map, Bool, true, false, refl, codes, None, digits, only, WithoutAddress, block_in, is_left_out, is_refused, mark_of, shown_of, entries, pairs, lacks_tally, are_cut, lacks_feed, row_text, are_right_by, free_items, free_mode, rows_of, pairs_of, Value}
 use Rattle.cidr_join.proofs.Words.{ℕ, Some, inl, inr, Finds, FindsEither, Found, IpNetwork, Join, Routes}
 use Rattle.std.specs.Prelude.{List}
 use Rattle.line_addresses.proofs.Areas.{anywhere}
@@ -70,8 +70,8 @@ block_of_networks = refl
 
 -- ---- with `--mapped`, what is found for a network of IPv4-mapped addresses
 
--- the block of its IPv4 addresses, in blocks of 16 and 48 bits, or, if none contains that, that of the network as it
--- stands; that of a network of other addresses too
+-- the block of its IPv4 addresses, in blocks of 16 and 48 bits, or, if none contains that, that of the network itself;
+-- that of a network of other addresses too
 abbrev grouping : Bool → Join
 grouping mapped = record {
   answers = answers.Blocks (record { v4 = 16; v6 = 48 });
@@ -111,6 +111,20 @@ pub value_of_ipv4_first : (routes : Routes) (first second : IpNetwork) (value : 
     → (network : IpNetwork) × IsLongestRoute routes first network value
 value_of_ipv4_first routes first second value (inl finds) some = finds.0
 value_of_ipv4_first routes first second value (inr finds) some = absurd (some finds.0)
+
+-- ---- lists that may have been cut
+
+pub cut_lists : map lacks_feed (codes "" ∷ codes "10.0.0.0/8 inne" ∷ codes "\na" ∷ codes "a\n" ∷ codes "a\r\n" ∷ codes "\n" ∷ [])
+    ≡ true ∷ true ∷ true ∷ false ∷ false ∷ false ∷ []
+cut_lists = refl
+
+-- one of several is enough, and only `--whole` (row 21) asks
+pub cut_if_asked : map (λ items. are_cut items (codes "a\n" ∷ codes "b" ∷ codes "c\n" ∷ []))
+    ((says.Flag 21 ∷ []) ∷ (says.Flag 20 ∷ []) ∷ []) ≡ true ∷ false ∷ []
+cut_if_asked = refl
+
+pub whole_lists : are_cut (says.Flag 21 ∷ []) (codes "a\n" ∷ codes "\n" ∷ []) ≡ false
+whole_lists = refl
 
 -- ---- what is printed
 

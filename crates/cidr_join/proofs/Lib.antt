@@ -1,3 +1,4 @@
+pub mod CutLists
 pub mod Examples
 pub mod Known
 pub mod LineExamples
@@ -9,8 +10,10 @@ pub mod LogsInTurn
 pub mod LongestOver
 pub mod Marks
 pub mod Numbering
+pub mod PutBack
 pub mod Repeated
 pub mod Runs
+pub mod Slashes
 pub mod Taking
 pub mod TallyLines
 pub mod TallyRows

@@ -1,6 +1,7 @@
 -- How a line of a list is read.
-use Rattle.cidr_join.proofs.Words.{◌≡◌, ℕ, ◌-◌, ◌≤◌, Bool, true, false, List, length, take, take_rest, drop, refl, sym, ap, subst, ◌∙◌, Option, None, Some, Ok, result_ok, answer_from, ip_of, IsRange, ReadsEntry, Entry, two_of, are_alike, entry_len, entry_part, first_word, value_part, word_len, trimmed, is_skipped, Pair, addresses_of, value_behind, value_of, Names, NamesNone, SaysSomething, LineFaults, Cause}
+use Rattle.cidr_join.proofs.Words.{◌≡◌, ℕ, ◌-◌, ◌≤◌, Bool, true, false, List, length, take, take_rest, drop, refl, inl, inr, sym, ap, subst, ◌∙◌, Option, None, Some, Ok, result_ok, answer_from, ip_of, IsRange, ReadsEntry, Entry, two_of, are_alike, entry_len, entry_part, first_word, value_part, trimmed, is_skipped, Pair, addresses_of, value_behind, value_of, HasEntry, Names, NamesNone, SaysSomething, LineFaults, Cause}
 use Rattle.lists.specs.declared.entry.Entry.TheVariants as entries
+use Rattle.lists.specs.declared.entry.EntryFault.TheVariants as faults
 use Rattle.cidr_join.specs.declared.line.Cause.TheVariants as causes
 
 -- the address in what reading a text returns
@@ -9,23 +10,20 @@ answered error None = refl
 answered error (Some address) = refl
 
 -- the parts of a text that are read as addresses
-module _ (text value : List ℕ) (end word : ℕ) (at : end ≡ entry_len text)
-    (part : value ≡ value_part (take (length text - end) (drop end text))) (first : word ≡ word_len value) where
+module _ (text value : List ℕ) (end : ℕ) (at : end ≡ entry_len text)
+    (part : value ≡ value_part (take (length text - end) (drop end text))) where
   pub front_is : take end text ≡ entry_part text
   front_is = ap (λ n. take n text) at
 
   pub value_is : value ≡ value_of text
   value_is = part ∙ ap value_part (take_rest text end) ∙ ap (λ n. value_part (drop n text)) at
 
-  word_is : take word value ≡ first_word (value_of text)
-  word_is = ap (λ n. take n value) first ∙ ap first_word value_is
-
-  addresses_are : two_of (ip_of (take end text)) (ip_of (take word value)) ≡ addresses_of text
+  addresses_are : two_of (ip_of (take end text)) (ip_of (first_word value)) ≡ addresses_of text
   unfolding addresses_of
-  addresses_are = ap (λ f. two_of (ip_of f) (ip_of (take word value))) front_is
-      ∙ ap (λ w. two_of (ip_of (entry_part text)) (ip_of w)) word_is
+  addresses_are = ap (λ f. two_of (ip_of f) (ip_of (first_word value))) front_is
+      ∙ ap (λ v. two_of (ip_of (entry_part text)) (ip_of (first_word v))) value_is
 
-  pub two_here : (pairs : Option Pair) → pairs ≡ two_of (ip_of (take end text)) (ip_of (take word value))
+  pub two_here : (pairs : Option Pair) → pairs ≡ two_of (ip_of (take end text)) (ip_of (first_word value))
       → addresses_of text ≡ pairs
   two_here pairs e = sym (e ∙ addresses_are)
 
@@ -63,10 +61,20 @@ module _ (bare ranges : Bool) (line text : List ℕ) (short : length line ≤ 10
 
   pub line_fails : (cause : Cause) → NamesNone ranges text (addresses_of text) cause → LineFaults bare ranges line cause
   line_fails (causes.Entry fault) h =
-      (something, subst (λ (t : List ℕ). NamesNone ranges t (addresses_of t) (causes.Entry fault)) is h)
+      inl (something, subst (λ (t : List ℕ). NamesNone ranges t (addresses_of t) (causes.Entry fault)) is h)
   line_fails causes.Second h =
       (something, subst (λ (t : List ℕ). NamesNone ranges t (addresses_of t) causes.Second) is h)
   line_fails causes.Value h = absurd h
   line_fails causes.Twice h = absurd h
   line_fails causes.Length h = absurd h
   line_fails causes.HostBits h = absurd h
+
+  pub second_fails : (entry : Entry) (value : List ℕ) → Names ranges text (addresses_of text) entry value
+      → HasEntry value → LineFaults bare ranges line (causes.Entry faults.Second)
+  second_fails entry value names has = inr (
+    (
+      something,
+      (entry, value, subst (λ (t : List ℕ). Names ranges t (addresses_of t) entry value) is names, has),
+    ),
+    refl,
+  )

@@ -51,7 +51,7 @@ module _ (rules : ListRules) (before between : Networks) (first more : List (Lis
       subst (λ (l : List (List ℕ)). Takes rules before l None) (sym (append_assoc first more others))
       (goes (more ++ others) None (h others))
 
--- those behind lines that end the run are not taken
+-- those after lines that end the run are not taken
 pub ends_first : (rules : ListRules) (before : Networks) (first more : List (List ℕ)) (fault : RouteFault)
     → EndsLines rules before first fault
     → EndsLines rules before (first ++ more) fault

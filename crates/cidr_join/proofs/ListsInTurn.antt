@@ -4,7 +4,7 @@ use Rattle.lists.specs.declared.bytes.BytesFault.TheVariants as bytes
 use Rattle.cidr_join.specs.declared.routes.RouteFault.TheVariants as routes
 use Rattle.cidr_join.proofs.Listing.{parts}
 
--- what is left from a place on begins with what stands there
+-- what is left from a place on begins with what is there
 pub left_from : {X : Type 0} (items : List X) (at : ℕ) (item : X) → at < length items → item ≡ get_or items at item
     → drop at items ≡ item ∷ drop (at + 1) items
 left_from items at item within is =

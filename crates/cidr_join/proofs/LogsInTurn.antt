@@ -1,13 +1,13 @@
 -- How logs are read one after another.
-use Rattle.cidr_join.proofs.Words.{◌≡◌, ◌||◌, ℕ, Bool, true, false, List, [], inl, inr, refl, sym, ap, true≢false, Option, None, Some, IsTrue, Ok, Err, Written, KnownLists, Cuts, PrintsLog, ReadsLog, is_cut, nothing, StopsLog, is_missed, LogStats, StopsBy, LogFault, GivesLine, counted_in, never, shown_in, GivesOne, CountsLog, FailsReading, StopsCounting, TellsUncounted, Counts, Found, Join, then_stopped, log_cut}
+use Rattle.cidr_join.proofs.Words.{◌≡◌, ◌||◌, ℕ, Bool, true, false, List, [], inl, inr, refl, sym, ap, true≢false, Option, None, Some, IpNetwork, IsTrue, Ok, Err, Written, KnownLists, Cuts, PrintsLog, ReadsLog, is_cut, nothing, StopsLog, is_missed, LogStats, StopsBy, LogFault, GivesLine, counted_in, never, shown_in, GivesOne, CountsLog, FailsReading, StopsCounting, TellsUncounted, Counts, Found, Join, then_stopped, log_cut}
 use Rattle.program.specs.declared.log_fault.LogFault.TheVariants as faults
 
 -- ---- one log
 
 module _ (join : Join) (known : KnownLists) (name : List ℕ) where
   -- it was not opened
-  pub not_opened : {A : Type 0} (of : Join → Found → List ℕ → List ℕ → List A) → known.may_open name false
-      → (cut missed : Bool)
+  pub not_opened : {A : Type 0} (of : Join → Option IpNetwork → Found → List ℕ → List ℕ → List A)
+      → known.may_open name false → (cut missed : Bool)
       → GivesOne of join known cut missed name [] (Some (missed || true))
   not_opened of closed cut missed = inl (closed, refl, refl)
 
@@ -15,8 +15,8 @@ module _ (join : Join) (known : KnownLists) (name : List ℕ) where
       (opened : known.may_open name true)
       (read_failed : Bool) where
     -- it was read to its end
-    pub read_all : {A T : Type 0} (of : Join → Found → List ℕ → List ℕ → List A) (done : T) (all : List A)
-        (seen : LogStats)
+    pub read_all : {A T : Type 0} (of : Join → Option IpNetwork → Found → List ℕ → List ℕ → List A)
+        (done : T) (all : List A) (seen : LogStats)
         → ReadsLog {T = T} never (GivesLine of join) nothing (Ok done) remained read_failed all seen → (more : Bool)
         → more ≡ is_missed join.bad seen
         → (cut missed : Bool) → GivesOne of join known cut missed name all (Some (missed || more))
@@ -30,8 +30,8 @@ module _ (join : Join) (known : KnownLists) (name : List ℕ) where
         )
 
     -- it ends the run
-    pub one_ends : {A T : Type 0} (of : Join → Found → List ℕ → List ℕ → List A) (fault : LogFault) (all : List A)
-        (seen : LogStats)
+    pub one_ends : {A T : Type 0} (of : Join → Option IpNetwork → Found → List ℕ → List ℕ → List A)
+        (fault : LogFault) (all : List A) (seen : LogStats)
         → ReadsLog {T = T} never (GivesLine of join) nothing (Err fault) remained read_failed all seen
         → (missed : Bool) → GivesOne of join known (is_cut {T = T} (Err fault)) missed name all None
     one_ends {A} {T} of fault all seen reads missed =

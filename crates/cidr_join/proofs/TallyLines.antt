@@ -2,7 +2,7 @@
 use Rattle.cidr_join.proofs.Words.{◌≡◌, ◌∙◌, ◌&&◌, not, ℕ, Bool, true, false, true≢false, List, [], ◌∷◌, ◌++◌, refl, sym, ap, subst, append_assoc, append-nil, Option, None, Some, Result, Ok, Err, OnOk, if◌then◌else◌, is_some, IpNetwork, Written, LineEnd, nothing, with_long, is_dropped, is_stopped, LogStats, WithoutAddress, reads_all, reads_break, reads_cut, reads_last, reads_last_long, reads_line, reads_long, OpenLog, Breaks, GivesNext, line_of, whole_of, LogFault, Line, TooLong, End, Finds, GivesLine, counted_for, counted_in, is_left_out, mark_of, never, IsCounted, CountsAsked, CountsAll, CountsLine, CountsLog, CountsSoFar, LineNotCounted, Counts, Found, Join}
 use Rattle.program.specs.declared.log_fault.LogFault.TheVariants as faults
 use Rattle.cidr_join.specs.declared.found.Found.TheVariants as founds_of
-use Rattle.cidr_join.proofs.Lines.{asked_long, long_gives, long_refused}
+use Rattle.cidr_join.proofs.Lines.{long_gives, long_refused}
 
 -- the test of the code is the one of the definitions
 pub left_by : (bad : WithoutAddress) (address : Option IpNetwork) (some left is : Bool) → some ≡ is_some address
@@ -126,8 +126,7 @@ module _ (founds : List Found) (join : Join) (was now : OpenLog) (remained befor
           counts = counts_both founds old mid new s.marks marks s.counts h.2;
           reads = reads_long never Of nothing remained was now before after s.marks seen s.reads read_failed given refl
               waits marks adds
-              (λ line long. long_gives join _ [] long counted_in seen adds h.0 marks passes h.1 e
-              (sym (ap (λ (a : Option IpNetwork). counted_for join a h.0) (asked_long join _ [] long))));
+              (λ line long. long_gives join seen _ [] long counted_in adds h.0 marks passes h.1 e refl);
         }
 
     pub long_ends : {T : Type 0} → is_stopped join.bad ≡ true
@@ -137,5 +136,5 @@ module _ (founds : List Found) (join : Join) (was now : OpenLog) (remained befor
       counts = tt;
       reads = reads_last_long never Of nothing remained was now before after s.marks seen s.reads read_failed given refl
           faults.Length [] seen tt
-          (λ line long. long_refused join _ [] long counted_in seen stops);
+          (λ line long. long_refused join seen _ [] long counted_in stops);
     }

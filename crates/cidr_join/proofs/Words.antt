@@ -1,11 +1,12 @@
 -- The words of this crate and of those below, passed on from one place.
 pub use Rattle.byte_search.specs.Bytes.{IsAbsent, IsNext}
 pub use Rattle.cidr_join.specs.Asked.{network_read, only}
-pub use Rattle.cidr_join.specs.Entries.{EntryFails, LineFaults, Names, NamesNone, Says, SaysSomething, entry_len, entry_part, first_word, is_blank, is_gap, is_name, is_skipped, is_word, trimmed, value_behind, value_of, value_part, word_len}
+pub use Rattle.cidr_join.specs.Comments.{HasEntry, HasNoEntry, comment_len, comment_words, is_skipped}
+pub use Rattle.cidr_join.specs.Entries.{EntryFails, HasSecond, LineFaults, Names, NamesNone, Says, SaysSomething, entry_len, entry_part, first_word, is_blank, is_gap, is_name, is_word, trimmed, value_behind, value_of, value_part, word_len}
 unfoldable pub use Rattle.cidr_join.specs.Entries.{addresses_of}
 pub use Rattle.cidr_join.specs.Groups.{block_in}
 pub use Rattle.cidr_join.specs.Joins.{Finds, FindsBy, FindsEither, GivesLine, asked_in, counted_for, counted_in, is_left_out, is_long, is_refused, mark_of, network_in, never, seen_with, shown_in, shown_of}
-pub use Rattle.cidr_join.specs.Lists.{AreRead, NotRead, lines_of, list_in, list_text, lists_of}
+pub use Rattle.cidr_join.specs.Lists.{AreRead, NotRead, are_cut, lacks_feed, lines_of, list_in, list_text, lists_of}
 pub use Rattle.cidr_join.specs.Logs.{GivesOne}
 pub use Rattle.cidr_join.specs.Longest.{FindsOver, HasAll, IsLongestOver, NoneHasAll}
 pub use Rattle.cidr_join.specs.Options.{entries, pairs}
@@ -38,9 +39,13 @@ pub use Rattle.cidr_join.specs.declared.tally.Tally.{Tally}
 pub use Rattle.cidr_join.specs.declared.value.Value.{Value}
 pub use Rattle.cidr_join.specs.declared.value_ids.ValueIds.{ValueIds}
 pub use Rattle.ipnetwork.specs.declared.ip_network.IpNetwork.{IpNetwork}
-pub use Rattle.ipnetwork_addr.specs.Computed.Either.{ip_of}
+pub use Rattle.ipnetwork_addr.specs.Computed.Either.{either_of, ip_of}
+pub use Rattle.ipnetwork_addr.specs.Computed.Ipv4Text.{v4_of}
 unfoldable pub use Rattle.ipnetwork_addr.specs.Computed.Ipv6Text.{gap_below, v6_of}
 pub use Rattle.ipnetwork_addr.specs.Computed.Reading.{answer_from}
+pub use Rattle.ipnetwork_addr.specs.Ipv4Text.{NamesV4}
+pub use Rattle.ipnetwork_addr.specs.Ipv6Text.{NamesV6}
+pub use Rattle.ipnetwork_addr.specs.Texts.{Colon, Digit, Dot, IsAddressByte, LowerHex, UpperHex}
 pub use Rattle.ipnetwork_family.proofs.Blocks.{block_begins, subnet_from, subnet_prefix}
 pub use Rattle.ipnetwork_family.proofs.BlocksAt.{block_at_holds, block_at_is}
 pub use Rattle.ipnetwork_family.specs.Network.{HostBitsAreZero, IsNetwork, Member, Network, block_at, block_of, network_cmp}
@@ -60,7 +65,7 @@ pub use Rattle.lists.specs.KnownLists.{KnownLists}
 pub use Rattle.lists.specs.declared.bytes.BytesFault.{BytesFault}
 pub use Rattle.lists.specs.declared.entry.Entry.{Entry}
 pub use Rattle.lists.specs.declared.entry.EntryFault.{EntryFault}
-pub use Rattle.log_programs.proofs.Handed.{handed_out}
+pub use Rattle.log_programs.proofs.ReturnedLines.{handed_out}
 pub use Rattle.log_programs.proofs.InTurn.{ends_here, goes_more}
 pub use Rattle.log_programs.proofs.LogPrints.{after_line, after_long, begins, breaks, log_ends, long_stops}
 pub use Rattle.log_programs.proofs.LogReads.{reads_all, reads_break, reads_cut, reads_last, reads_last_long, reads_line, reads_long, reads_nothing}
@@ -102,18 +107,18 @@ pub use Rattle.std.proofs.lemmas.Map.Iter.{iter_end}
 pub use Rattle.std.proofs.lemmas.Option.{none-some}
 pub use Rattle.std.proofs.lemmas.Result.{err_from_is_err_and}
 pub use Rattle.std.specs.Cmp.Lexicographic.{bytes_decides, nat_list_eq_equiv, pointwise}
-pub use Rattle.std.specs.FinMap.{FinMap, empty, get, get-empty, get-insert, insert}
+pub use Rattle.std.specs.FinMap.{FinMap, empty, get, get-empty, get-insert, insert, same_map}
 unfoldable pub use Rattle.std.specs.Fmt.{digits}
 pub use Rattle.std.specs.HashMap.{HashMap, UpdatesBy}
 pub use Rattle.std.specs.Io.KnownBytes.{Appends}
 unfoldable pub use Rattle.std.specs.List.{IsDistinct}
-pub use Rattle.std.specs.List.{AllByRecursion, count_by, flat_map, range_with_len, slice_index_or, slice_split, sum_by}
+pub use Rattle.std.specs.List.{AllByRecursion, count_by, flat_map, list_any, range_with_len, slice_index_or, slice_split, sum_by}
 pub use Rattle.std.specs.List.Sorted.{IsPermutation, IsSortedBy}
 unfoldable pub use Rattle.std.specs.Map.{KeepsOthers}
 pub use Rattle.std.specs.Map.{AreApart, IsKeyTest, keys_of, lookup}
 pub use Rattle.std.specs.Option.{is_some, option_copied_mut, unwrap_or}
 pub use Rattle.std.specs.Ordering.{eq_by_cmp, is_lt}
-pub use Rattle.std.specs.Prelude.{Err, IfErr, IfOk, IsSome, IsTrue, None, Ok, OnErr, OnOk, Option, Result, Some, Vec, codes, filter, if◌then◌else◌, is_err, nat_eq, vec_len, ◌≢◌}
+pub use Rattle.std.specs.Prelude.{Err, IfErr, IfOk, IsSome, IsTrue, None, Ok, OnErr, OnOk, Option, Result, Some, Vec, codes, filter, if◌then◌else◌, is_err, nat_eq, vec_len, ◌↔◌, ◌≢◌}
 pub use Rattle.std.specs.Result.{result_ok}
 pub use Rattle.std.specs.Str.{bytes_eq}
 pub use Rattle.std.specs.String.{string_bytes}

@@ -9,6 +9,7 @@ use Rattle.lists.specs.declared.entry.Entry.{Entry}
 use Rattle.lists.specs.declared.entry.Entry.TheVariants as entries
 use Rattle.lists.specs.declared.entry.EntryFault.{EntryFault}
 use Rattle.lists.specs.declared.entry.EntryFault.TheVariants as faults
+use Rattle.cidr_join.specs.Comments.{HasEntry, HasNoEntry, comment_len, is_skipped}
 use Rattle.cidr_join.specs.Pairs.{AreNoRange, are_alike, two_of}
 use Rattle.cidr_join.specs.declared.line.Cause.{Cause}
 use Rattle.cidr_join.specs.declared.line.Cause.TheVariants as causes
@@ -28,9 +29,10 @@ is_gap byte = byte == 32 || byte == 9
 abbrev pub is_word : ℕ → Bool
 is_word byte = not (byte == 32) && not (byte == 9) && not (byte == 44)
 
--- neither a space nor a tab nor a comma nor a `-`
+-- neither a space nor a tab nor a comma nor a `-` nor `#` nor `;`
 abbrev pub is_name : ℕ → Bool
-is_name byte = not (byte == 32) && not (byte == 9) && not (byte == 44) && not (byte == 45)
+is_name byte = not (byte == 32) && not (byte == 9) && not (byte == 44) && not (byte == 45) && not (byte == 35)
+    && not (byte == 59)
 
 -- the text without the blanks around it
 abbrev pub trimmed : List ℕ → List ℕ
@@ -63,9 +65,13 @@ tail_len text = with_gap (gap_len text) (dash_len (drop (gap_len text) text))
 abbrev pub ends_len : List ℕ → ℕ
 ends_len text = name_len text + tail_len (drop (name_len text) text)
 
--- the length of the entry: if one more `-` follows, that and the name after it belong to it, so that it is refused
+-- if one more `-` follows, that and the name after it belong to the entry, so that it is refused
+abbrev pub names_len : List ℕ → ℕ
+names_len text = ends_len text + tail_len (drop (ends_len text) text)
+
+-- the length of the entry: if `#` or `;` follows directly, all that is left is a comment, and belongs to it
 abbrev pub entry_len : List ℕ → ℕ
-entry_len text = ends_len text + tail_len (drop (ends_len text) text)
+entry_len text = names_len text + comment_len (drop (names_len text) text)
 
 abbrev pub entry_part : List ℕ → List ℕ
 entry_part text = take (entry_len text) text
@@ -83,7 +89,7 @@ value_part text = trimmed (behind_comma (trimmed text))
 abbrev pub value_of : List ℕ → List ℕ
 value_of text = value_part (drop (entry_len text) text)
 
--- the first word of a value, and the value behind it
+-- the first word of a value, and the value after it
 abbrev pub first_word : List ℕ → List ℕ
 first_word value = take (word_len value) value
 
@@ -93,11 +99,6 @@ value_behind value = value_part (drop (word_len value) value)
 -- the two addresses that a text begins with: its entry is one, without a `/`, and the first word of its value another
 unfoldable pub addresses_of : List ℕ → Option Pair
 addresses_of text = two_of (ip_of (entry_part text)) (ip_of (first_word (value_of text)))
-
--- a text without blanks around it is empty or a comment: it begins with `#` or `;`
-abbrev pub is_skipped : List ℕ → Bool
-is_skipped [] = true
-is_skipped (byte ∷ rest) = byte == 35 || byte == 59
 
 -- a line of at most 1,024 bytes that is blank or a comment
 abbrev pub SaysNothing : List ℕ → Type 0
@@ -119,11 +120,12 @@ Names true text (Some pair) entry value = (entry ≡ entries.Range pair.first pa
 Names true text None entry value = NamesOne text entry value
 Names false text pair entry value = (are_alike pair ≡ false) × NamesOne text entry value
 
--- the line says this network or range and this value, which is empty only if `bare`
+-- the line says this network or range and this value, which is empty only if `bare`, and has no entry in a comment that
+-- it begins as
 abbrev pub Says : Bool → Bool → List ℕ → Entry → Value → Type 0
 Says bare ranges line entry value = SaysSomething line
     × Names ranges (trimmed line) (addresses_of (trimmed line)) entry value.bytes.now
-    × (bare ≡ false → value.bytes.now ≢ [])
+    × (bare ≡ false → value.bytes.now ≢ []) × HasNoEntry value.bytes.now
 
 -- why a text is not a network or range; an empty text has the fault of an address
 abbrev pub EntryFails : List ℕ → EntryFault → Type 0
@@ -144,10 +146,16 @@ NamesNone ranges text pair causes.HostBits = ⊥
 abbrev pub SaysNone : Bool → List ℕ → Cause → Type 0
 SaysNone ranges line cause = SaysSomething line × NamesNone ranges (trimmed line) (addresses_of (trimmed line)) cause
 
+-- a line names a network or a range, and its value begins as a comment that has an entry
+abbrev pub HasSecond : Bool → List ℕ → Type 0
+HasSecond ranges line = SaysSomething line × ((entry : Entry) × (value : List ℕ)
+    × Names ranges (trimmed line) (addresses_of (trimmed line)) entry value × HasEntry value)
+
 -- why a line cannot be read; a value may be missing if `bare`
 abbrev pub LineFaults : Bool → Bool → List ℕ → Cause → Type 0
 LineFaults bare ranges line causes.Length = 1024 < length line
 LineFaults bare ranges line (causes.Entry fault) = SaysNone ranges line (causes.Entry fault)
+    ⊎ (HasSecond ranges line × (fault ≡ faults.Second))
 LineFaults bare ranges line causes.Second = SaysNone ranges line causes.Second
 LineFaults bare ranges line causes.Value = (bare ≡ false) × SaysSomething line
     × ((entry : Entry) × Names ranges (trimmed line) (addresses_of (trimmed line)) entry [])

@@ -6,6 +6,7 @@ use Rattle.std.specs.Option.{is_some}
 use Rattle.ipnetwork.specs.IpNetworkText.{ip_network_text}
 use Rattle.ipnetwork.specs.declared.ip_network.IpNetwork.{IpNetwork}
 use Rattle.line_addresses.specs.Areas.{part_of, picked_in}
+use Rattle.log_programs.specs.ByteOrderMarks.{judged}
 use Rattle.log_programs.specs.InTurn.{Ends, InTurn}
 use Rattle.log_programs.specs.LogReads.{OfLine}
 use Rattle.log_programs.specs.LogStats.{nothing, with_line, with_long}
@@ -24,10 +25,11 @@ use Rattle.cidr_join.specs.declared.found.Found.TheVariants as founds
 use Rattle.cidr_join.specs.declared.join.Join.{Join}
 use Rattle.cidr_join.specs.declared.value.Value.{Value}
 
--- the address or network found in a line, as a network; that of an address has no other address
-abbrev pub network_in : Join → List ℕ → Option IpNetwork
-network_in join line =
-    network_of_found join.networks (picked_in join.networks join.area.pick (part_of join.area.part line))
+-- the address or network found in a line, if so many lines of its log come before it, as a network; that of an address
+-- has no other address
+abbrev pub network_in : Join → ℕ → List ℕ → Option IpNetwork
+network_in join before line = network_of_found join.networks
+    (picked_in join.networks join.area.pick (part_of join.area.part (judged before line)))
 
 -- what is found for a network: the value of the longest network of the list that contains it, or that network, or
 -- nothing; or, with `--group`, the block that contains it, if one does
@@ -53,7 +55,7 @@ FindsEither by first second found = (FindsBy by first found × (is_nothing found
     ⊎ (FindsBy by first founds.Nothing × FindsBy by second found)
 
 -- what is found for the network of a line, or for a line without one; with `--mapped`, a network of IPv4-mapped
--- addresses is looked up as that of their IPv4 addresses first, and then as it stands
+-- addresses is looked up as that of their IPv4 addresses first, and then as it is
 abbrev pub Finds : Join → Option IpNetwork → Found → Type 0
 Finds join None found = found ≡ founds.Nothing
 Finds join (Some asked) found = FindsEither join.answers (asked_network join.mapped asked) asked found
@@ -73,9 +75,9 @@ shown_of last mark line text = if last then line ++ 9 ∷ (mark ++ drop (length 
 abbrev pub is_long : List ℕ → Bool
 is_long line = nat_lt 1048576 (length line)
 
--- the network of a line; one that is too long has none
-abbrev pub asked_in : Join → List ℕ → Option IpNetwork
-asked_in join line = if is_long line then None else network_in join line
+-- the same; a line that is too long has none
+abbrev pub asked_in : Join → ℕ → List ℕ → Option IpNetwork
+asked_in join before line = if is_long line then None else network_in join before line
 
 -- a line without an address ends the run, with `--bad stop`, or is left out, with `--bad drop`
 abbrev pub is_refused : WithoutAddress → Option IpNetwork → Bool
@@ -86,10 +88,10 @@ abbrev pub is_left_out : WithoutAddress → Option IpNetwork → Bool
 is_left_out bad None = is_dropped bad
 is_left_out bad (Some asked) = false
 
--- what is written for a line, given what was found for it: nothing if it is left out or too long; `line` is the line
--- without its end, `text` as it is printed
-abbrev pub shown_in : Join → Found → List ℕ → List ℕ → List ℕ
-shown_in join found line text = if is_long line || is_left_out join.bad (asked_in join line) then []
+-- what is written for a line with this network, or with none, given what was found for it: nothing if it is left out or
+-- too long; `line` is the line without its end, `text` as it is printed
+abbrev pub shown_in : Join → Option IpNetwork → Found → List ℕ → List ℕ → List ℕ
+shown_in join asked found line text = if is_long line || is_left_out join.bad asked then []
     else shown_of join.last (mark_of found) line text
 
 -- what is counted for a line with this network, or with none, if this was found for it: nothing if such lines are left
@@ -97,22 +99,22 @@ shown_in join found line text = if is_long line || is_left_out join.bad (asked_i
 abbrev pub counted_for : Join → Option IpNetwork → Found → List (List ℕ)
 counted_for join asked found = if is_left_out join.bad asked then [] else mark_of found ∷ []
 
-abbrev pub counted_in : Join → Found → List ℕ → List ℕ → List (List ℕ)
-counted_in join found line text = counted_for join (asked_in join line) found
+abbrev pub counted_in : Join → Option IpNetwork → Found → List ℕ → List ℕ → List (List ℕ)
+counted_in join asked found line text = counted_for join asked found
 
 -- the counts of the lines so far and of this one, which has an address, has none, or is too long
 abbrev pub seen_with : Join → LogStats → List ℕ → LogStats
 seen_with join seen line =
-    if is_long line then with_long seen else with_line seen (is_some (network_in join line))
+    if is_long line then with_long seen else with_line seen (is_some (network_in join seen.lines line))
 
--- what the next line gives, by what a line gives for what was found for it (`of`), and the counts with it, or `None` if
--- it ends the run; those before it have the counts `seen`
-abbrev pub GivesLine : {A : Type 0} → (Join → Found → List ℕ → List ℕ → List A) → Join → LogStats → List ℕ → List ℕ
-    → List A → Option LogStats → Type 0
-GivesLine of join seen line text given next =
-    ((is_refused join.bad (asked_in join line) ≡ true) × Ends None given next)
-    ⊎ ((is_refused join.bad (asked_in join line) ≡ false) × (found : Found) × Finds join (asked_in join line) found
-    × (given ≡ of join found line text) × (next ≡ Some (seen_with join seen line)))
+-- what the next line gives, by what a line gives for its network and what was found for that (`of`), and the counts
+-- with it, or `None` if it ends the run; those before it have the counts `seen`
+abbrev pub GivesLine : {A : Type 0} → (Join → Option IpNetwork → Found → List ℕ → List ℕ → List A) → Join → LogStats
+    → List ℕ → List ℕ → List A → Option LogStats → Type 0
+GivesLine of join seen line text given next = let asked = asked_in join seen.lines line in
+    ((is_refused join.bad asked ≡ true) × Ends None given next)
+    ⊎ ((is_refused join.bad asked ≡ false) × (found : Found) × Finds join asked found
+    × (given ≡ of join asked found line text) × (next ≡ Some (seen_with join seen line)))
 
 -- all lines, and all logs, are looked at
 abbrev pub never : {S : Type 0} → S → Bool
@@ -120,6 +122,6 @@ never state = false
 
 -- what the lines of a log give, one after another, and their counts, or `None` if one ends the run. If a device failed
 -- (`cut`), the log may end before any line
-abbrev pub Gives : {A : Type 0} → (Join → Found → List ℕ → List ℕ → List A) → Join → Bool → List LogLine → List A
-    → Option LogStats → Type 0
+abbrev pub Gives : {A : Type 0} → (Join → Option IpNetwork → Found → List ℕ → List ℕ → List A) → Join → Bool
+    → List LogLine → List A → Option LogStats → Type 0
 Gives of join cut lines all end = InTurn never (OfLine (GivesLine of join)) cut nothing lines all end

@@ -1,5 +1,6 @@
 -- The definitions used in the contracts of this crate.
 pub mod Asked
+pub mod Comments
 pub mod Entries
 pub mod Groups
 pub mod Joins

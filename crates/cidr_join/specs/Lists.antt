@@ -1,13 +1,16 @@
 -- The lists of a run: all are read, and then their lines are taken in turn.
-use Rattle.std.specs.Prelude.{◌≡◌, ◌≤◌, ◌⊎◌, ◌==◌, ℕ, List, [], ◌∷◌, ◌++◌, length, if◌then◌else◌}
-use Rattle.std.specs.List.{slice_split}
+use Rattle.std.specs.Prelude.{◌≡◌, ◌≤◌, ◌⊎◌, ◌==◌, ◌&&◌, ℕ, Bool, not, List, [], ◌∷◌, ◌++◌, length, if◌then◌else◌}
+use Rattle.std.specs.List.{list_any, slice_split}
 use Rattle.lists.specs.Bytes.{IsAllOf, BytesStop}
 use Rattle.lists.specs.KnownLists.{KnownLists}
+use Rattle.lists.specs.Stopped.{ends_with_feed}
 use Rattle.lists.specs.declared.bytes.BytesFault.{BytesFault}
 use Rattle.lists.specs.declared.bytes.BytesFault.TheVariants as bytes
 use Rattle.log_programs.specs.Rows as rows
+use Rattle.options.specs.Given.{is_given}
 use Rattle.options.specs.declared.items.Item.{Item}
 use Rattle.options.specs.declared.items.Item.TheVariants as says
+use Rattle.cidr_join.specs.Options as own
 use Rattle.cidr_join.specs.declared.reading.ReadList.{ReadList}
 
 -- the name of the list that an option reads, if it is `-f`
@@ -49,6 +52,14 @@ UnreadBy known name bytes.OutOfMemory = ⊥
 abbrev pub NotRead : KnownLists → List (List ℕ) → Type 0
 NotRead known [] = ⊥
 NotRead known (name ∷ names) = ((fault : BytesFault) × UnreadBy known name fault) ⊎ NotRead known names
+
+-- a list does not end with a line feed
+abbrev pub lacks_feed : List ℕ → Bool
+lacks_feed text = not (ends_with_feed text)
+
+-- the options ask for whole lists, and one of these does not end with a line feed
+abbrev pub are_cut : List Item → List (List ℕ) → Bool
+are_cut items texts = is_given items own.whole && list_any lacks_feed texts
 
 -- the lines of these lists, one list after another
 abbrev pub lines_of : List (List ℕ) → List (List ℕ)

@@ -6,7 +6,7 @@ use Rattle.options.specs.declared.table.Kind.TheVariants as kinds
 use Rattle.options.specs.declared.table.Table.{Table}
 
 -- the rows of the options that only this program has: `--last`, `--last-wins`, `--network`, `--tally`, `--group`,
--- `--bad`, `--zero`, `--skip-bad`, `--networks`, `--ranges` and `--strict`
+-- `--bad`, `--zero`, `--skip-bad`, `--networks`, `--ranges`, `--strict` and `--whole`
 abbrev pub last : ℕ
 last = 10
 
@@ -40,20 +40,24 @@ ranges = 19
 abbrev pub strict : ℕ
 strict = 20
 
+abbrev pub whole : ℕ
+whole = 21
+
 -- the options, in the order of their rows
 abbrev pub entries : List Entry
 entries =
     rows.shared ++ long_flag (codes "--last") ∷ long_flag (codes "--last-wins") ∷ long_flag (codes "--network")
     ∷ long_flag (codes "--tally") ∷ long (codes "--group") kinds.Lengths true ∷ long (codes "--bad") kinds.Rule true
     ∷ long_flag (codes "--zero") ∷ long_flag (codes "--skip-bad") ∷ long_flag (codes "--networks")
-    ∷ long_flag (codes "--ranges") ∷ long_flag (codes "--strict") ∷ rows.late_quiet ∷ []
+    ∷ long_flag (codes "--ranges") ∷ long_flag (codes "--strict") ∷ long_flag (codes "--whole")
+    ∷ rows.late_quiet ∷ []
 
 -- the pairs of options that may not be given together: some options for where addresses are looked for, `--tally` with
 -- `--last`, two `-f`, and `--group` with `-f` or an option about its list
 abbrev pub pairs : List (ℕ × ℕ)
 pairs =
     rows.together ++ (tally, last) ∷ (group, rows.list) ∷ (group, network) ∷ (group, last_wins) ∷ (group, zeros)
-    ∷ (group, ranges) ∷ (group, skips_bad) ∷ (group, strict) ∷ []
+    ∷ (group, ranges) ∷ (group, skips_bad) ∷ (group, strict) ∷ (group, whole) ∷ []
 
 -- the table has these options and pairs, and requires `-f` or `--group`
 abbrev pub IsOptions : Table → Type 0

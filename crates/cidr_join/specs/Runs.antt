@@ -19,7 +19,7 @@ use Rattle.cidr_join.specs.Options as own
 use Rattle.cidr_join.specs.Options.{IsOptions}
 use Rattle.cidr_join.specs.Joins.{counted_in, never, shown_in}
 use Rattle.cidr_join.specs.Logs.{GivesOne}
-use Rattle.cidr_join.specs.Lists.{AreRead, NotRead, lines_of, lists_of}
+use Rattle.cidr_join.specs.Lists.{AreRead, NotRead, are_cut, lines_of, lists_of}
 use Rattle.cidr_join.specs.Routes.{no_networks}
 use Rattle.cidr_join.specs.Takes.{Takes}
 use Rattle.cidr_join.specs.Tallies.{Row, IsTally, named_in, rows_text}
@@ -108,6 +108,11 @@ EndsJoining known items texts end = (Takes (rules_of items) no_networks (lines_o
     ⊎ ((networks : Networks) × Takes (rules_of items) no_networks (lines_of texts) (Some networks)
     × EndsAsked known items (answers_of items networks) end)
 
+-- with `--whole`, nothing is written if a list does not end with a line feed
+abbrev pub EndsReading : {W E : Type 0} → KnownLists → List Item → List (List ℕ) → Ending W E → Type 0
+EndsReading known items texts end = ((are_cut items texts ≡ true) × IsSilent end)
+    ⊎ ((are_cut items texts ≡ false) × EndsJoining known items texts end)
+
 -- the lengths of the blocks in which lines are grouped, if `--group` is given
 abbrev pub both : Option (ℕ × ℕ) → Option Lengths
 both None = None
@@ -121,7 +126,7 @@ lengths_of items = both (lengths_in (value_of items own.group))
 abbrev pub EndsGrouping : {W E : Type 0} → Option Lengths → KnownLists → List Item → Ending W E → Type 0
 EndsGrouping (Some lengths) known items end = EndsAsked known items (answers.Blocks lengths) end
 EndsGrouping None known items end = (NotRead known (lists_of items) × IsSilent end)
-    ⊎ ((texts : List (List ℕ)) × AreRead known (lists_of items) texts × EndsJoining known items texts end)
+    ⊎ ((texts : List (List ℕ)) × AreRead known (lists_of items) texts × EndsReading known items texts end)
 
 abbrev pub EndsFiles : {W E : Type 0} → KnownLists → List Item → Ending W E → Type 0
 EndsFiles known items end = EndsGrouping (lengths_of items) known items end

@@ -46,7 +46,7 @@ impl<'a> Answers<'a> {
         }
     }
 
-    // Returns what is printed for a network as it stands.
+    // Returns what is printed for a network as it is.
     fn find_one(&self, asked: IpNetwork) -> Found<'a>
         ensures { FindsBy self.now asked result }
     {

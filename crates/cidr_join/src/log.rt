@@ -75,7 +75,7 @@ fn join_line<W: Write>(
     ensures err { IfErr result (StopsLine (GivesLine shown_in join.now) line.now
         (whole.now ++ feed_behind end) output.old seen.old output.new) }
 {
-    let asked = join.network_in(line);
+    let asked = join.network_in(line, seen.lines);
     if join.refuses(asked) {
         return Err(LogFault::Address);
     }

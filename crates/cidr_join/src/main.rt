@@ -3,6 +3,7 @@
 
 mod answers;
 mod asked;
+mod comment;
 mod counts;
 mod found;
 mod help;
@@ -26,6 +27,7 @@ mod tally_logs;
 mod telling;
 mod value;
 mod value_ids;
+mod whole;
 
 use crate::help::{PROGRAM, USAGE};
 use crate::rows::table;

@@ -1,11 +1,12 @@
 //! Two addresses at the front of a line.
-ghost use Rattle.std.specs.Prelude.{◌≡◌, ◌↔◌, IsTrue, MatchOption};
+ghost use Rattle.std.specs.Prelude.{◌≡◌, ◌↔◌, IsTrue, MatchOption, None};
 ghost use Rattle.ipnetwork_addr.specs.Computed.Either.{ip_of};
 ghost use Rattle.lists.specs.Entries.{IsRange};
+ghost use Rattle.cidr_join.specs.Entries.{first_word};
 ghost use Rattle.cidr_join.specs.Pairs.{are_one_family, two_of};
 
 use ipnetwork::{IpAddr, laws};
-use lists::Entry;
+use lists::{ByteKind, Entry, front_len};
 
 /// Two addresses, one after the other.
 #[derive(Clone, Copy, Debug)]
@@ -16,18 +17,41 @@ pub struct Pair {
     pub second: IpAddr,
 }
 
-/// Returns the addresses that two texts are, if both are one.
-pub(crate) fn pair_of(front: &[u8], word: &[u8]) -> Option<Pair>
-    ensures { result ≡ two_of (ip_of front.now) (ip_of word.now) }
+/// Returns the addresses that a text and the first word of a value are, if both are one.
+pub(crate) fn pair_of(front: &[u8], value: &[u8]) -> Option<Pair>
+    ensures { result ≡ two_of (ip_of front.now) (ip_of (first_word value.now)) }
 {
+    if ends_in_prefix(front) {
+        return None;
+    }
     // Most values begin with no address: only if one does, `front` is read once more.
-    match address_of(word) {
+    match address_of(first_word(value)) {
         Some(second) => match address_of(front) {
             Some(first) => Some(Pair { first, second }),
             None => None,
         },
         None => None,
     }
+}
+
+// Whether one or two bytes after a `/` end a text, which then is no address: `10.0.0.0/8`.
+fn ends_in_prefix(text: &[u8]) -> bool
+    ensures { IsTrue result → ip_of text.now ≡ None }
+{
+    // These do nothing: the proof of this body needs the laws.
+    laws::v4_text_is_computed();
+    laws::v6_text_is_computed();
+    laws::v4_text_bytes();
+    laws::v6_text_bytes();
+    let count = text.len();
+    count > 2 && (text[count - 3] == b'/' || text[count - 2] == b'/')
+}
+
+// Returns the first word of a value: what comes before a space, a tab or a comma.
+fn first_word(value: &[u8]) -> &[u8]
+    ensures { result.now ≡ first_word value.now }
+{
+    &value[..front_len::<OfWord>(value)]
 }
 
 // Returns the address that a text names.
@@ -75,4 +99,17 @@ fn is_range(first: &IpAddr, last: &IpAddr) -> bool
         return false;
     }
     first <= last
+}
+
+/// Neither a space nor a tab nor a comma.
+pub(crate) struct OfWord;
+
+impl ByteKind for OfWord {
+    ghost use Rattle.cidr_join.specs.Entries.{is_word};
+
+    ghost is_one = { is_word };
+
+    fn has(byte: u8) -> bool {
+        byte != b' ' && byte != b'\t' && byte != b','
+    }
 }

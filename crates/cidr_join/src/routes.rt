@@ -93,10 +93,12 @@ pub(crate) fn set_one<'a, N: AddressSpace>(
     ensures err { IfErr result (IsRefusal (HasOne N.WIDTH last_wins table.old (N.pair network))) }
     ensures kept { IfErr result (Keeps table.old table.new) }
 {
-    if !last_wins && table.get(network).is_some() {
-        return Err(RouteFault::Refused(Cause::Twice));
-    }
     match table.insert(network, value) {
+        Ok(Some(old)) if !last_wins => {
+            // The block gets its own value back: one search fewer for each network that has none.
+            let _ = table.insert(network, old);
+            Err(RouteFault::Refused(Cause::Twice))
+        }
         Ok(_) => Ok(()),
         Err(_) => Err(RouteFault::OutOfMemory),
     }

@@ -37,8 +37,11 @@ pub(crate) const RANGES: usize = 19;
 /// The row of `--strict`.
 pub(crate) const STRICT: usize = 20;
 
+/// The row of `--whole`.
+pub(crate) const WHOLE: usize = 21;
+
 // The options.
-const ROWS: [Row; 22] = log_rows![
+const ROWS: [Row; 23] = log_rows![
     long!("--last", Flag, false, ""),
     long!("--last-wins", Flag, false, ""),
     long!("--network", Flag, false, ""),
@@ -55,15 +58,16 @@ const ROWS: [Row; 22] = log_rows![
     long!("--networks", Flag, false, ""),
     long!("--ranges", Flag, false, ""),
     long!("--strict", Flag, false, ""),
+    long!("--whole", Flag, false, ""),
 ];
 
 // What is reported about `--group` with an option about a list.
 const GROUP_ALONE: &str =
-    "--group goes with none of -f, --network, --last-wins, --ranges, --skip-bad, --strict and \
-     --zero";
+    "--group goes with none of -f, --network, --last-wins, --ranges, --skip-bad, --strict, \
+     --whole and --zero";
 
 // The options that may not be given together.
-const PAIRS: [Pair; 13] = log_pairs![
+const PAIRS: [Pair; 14] = log_pairs![
     [],
     [
         pair!(TALLY, LAST, "--last does not go with --tally"),
@@ -74,6 +78,7 @@ const PAIRS: [Pair; 13] = log_pairs![
         pair!(GROUP, RANGES, GROUP_ALONE),
         pair!(GROUP, SKIPS_BAD, GROUP_ALONE),
         pair!(GROUP, STRICT, GROUP_ALONE),
+        pair!(GROUP, WHOLE, GROUP_ALONE),
     ],
 ];
 

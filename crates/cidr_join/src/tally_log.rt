@@ -83,7 +83,7 @@ fn count_line(
         seen.old seen.new) }
     ensures err { IfErr result (LineNotCounted join.now line.now seen.old) }
 {
-    let asked = join.network_in(line);
+    let asked = join.network_in(line, seen.lines);
     if join.refuses(asked) {
         return Err(LogFault::Address);
     }

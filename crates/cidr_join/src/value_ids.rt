@@ -120,7 +120,7 @@ impl<'a> ValueIds<'a> {
         }
     }
 
-    // Returns the number that stands for what is printed for a network as it stands.
+    // Returns the number that stands for what is printed for a network as it is.
     fn number_at(&self, asked: IpNetwork) -> usize
         ensures { StandsForRoute self.now asked result }
     {
@@ -153,7 +153,7 @@ fn no_numbers<'a>(alloc: Global) -> Result<ValueIds<'a>, AllocError>
     })
 }
 
-// Numbers the networks of a list; `network` tells whether they or their values are printed.
+// Numbers the networks of a list; `network` says whether they or their values are printed.
 fn number_routes<'a>(
     alloc: Global,
     routes: &Routes<'a>,

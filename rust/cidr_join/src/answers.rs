@@ -41,7 +41,7 @@ impl<'a> Answers<'a> {
         }
     }
 
-    // Returns what is printed for a network as it stands.
+    // Returns what is printed for a network as it is.
     fn find_one(&self, asked: IpNetwork) -> Found<'a> {
         match self {
             Answers::Values(routes) => match routes.longest(asked) {

@@ -13,14 +13,15 @@ Prints the lines of logs, each with the value that a list gives its address.
     cidr_join [OPTION..] --group N,M [FILE..]
 
     -f LIST         read networks (10.0.0.0/8, 10.0.0.1, 2001:db8::/32) and ranges (A - B) from a
-                    file, one on each line, followed by a tab, a comma or blanks, and a value. A
-                    line that begins with # or ; is a comment. - is standard input. Several LISTs,
-                    each after an -f, count as one
+                    file, one on each line, followed by a tab, a comma or blanks, and a value. At
+                    the start of a line, or directly after a network, # or ; begins a comment. - is
+                    standard input. Several LISTs, each after an -f, count as one
     --last-wins     a network that the lists have twice gets its last value; without this option,
                     the second one is refused
     --skip-bad      report refused lines of the lists and use the others; without this option, the
                     first refused line ends the program before any log is read
     --strict        refuse networks of the lists with host bits (10.0.0.5/8)
+    --whole         refuse a list without a line feed at its end, or empty: it may have been cut off
     --ranges        a line FIRST LAST VALUE, separated by spaces, tabs or commas, as iptoasn and
                     DB-IP have it, is the range from FIRST to LAST; without this option, a line in
                     which an address of the same family follows an address is refused",
@@ -30,7 +31,7 @@ Prints the lines of logs, each with the value that a list gives its address.
                     and [2001:db8::1]:443 have one; v10.1.2.3, 1.2.3.4.5 and 12:34:56 have none",
     "
     --mapped        look up an address ::ffff:A.B.C.D of a line as A.B.C.D first, and if no network
-                    has that, as it stands
+                    has that, as it is
     --networks      also look up the networks in a line (10.1.0.0/16), by the longest network of the
                     list, or the block of --group, that has all its addresses; without this option
                     only its address is looked up
@@ -44,7 +45,7 @@ Prints the lines of logs, each with the value that a list gives its address.
                     networks, with the number 0. Only with --tally
     --group N,M     use no list: print before each line the block of length N that has its address,
                     or for IPv6 that of length M: --group 24,64. Not with -f, --network,
-                    --last-wins, --ranges, --skip-bad, --strict or --zero
+                    --last-wins, --ranges, --skip-bad, --strict, --whole or --zero
     --bad drop      a line without an address is neither printed nor counted, and lines that are too
                     long are not reported
     --bad keep      it is printed after a minus sign (the default)
@@ -88,5 +89,5 @@ pub(crate) const PROGRAM: &str = "cidr_join";
 pub(crate) const USAGE: &str =
     "usage: cidr_join [--after TEXT | [-a] [-k N] [-d CHAR | -w]] [--nth first|last|N] [--mapped] \
      [--networks] [--bad drop|keep|stop|report] [--last | --tally [--zero]] \
-     (-f LIST.. [--network] [--last-wins] [--ranges] [--strict] [--skip-bad] | --group N,M) \
-     [FILE..]; try --help\n";
+     (-f LIST.. [--network] [--last-wins] [--ranges] [--strict] [--whole] [--skip-bad] \
+     | --group N,M) [FILE..]; try --help\n";

@@ -7,6 +7,7 @@ use crate::asked::network_of;
 use crate::found::Found;
 use fosibegan_core::ipnetwork::IpNetwork;
 use cidr_programs::line_addresses::{Area, part_of, picked};
+use cidr_programs::log_programs::byte_order_mark::judged;
 use cidr_programs::log_programs::without_address::WithoutAddress;
 
 /// What decides what is printed for a line.
@@ -54,9 +55,9 @@ impl<'a> Join<'a> {
     }
 
     /// Returns the network of a line; that of an address has no other address. The line is given
-    /// without its end.
-    pub(crate) fn network_in(&self, line: &[u8]) -> Option<IpNetwork> {
-        let Some(part) = part_of(&self.area.part, line) else {
+    /// without its end, and `before` lines of its log come before it.
+    pub(crate) fn network_in(&self, line: &[u8], before: u64) -> Option<IpNetwork> {
+        let Some(part) = part_of(&self.area.part, judged(line, before)) else {
             return None;
         };
         let Some(found) = picked(part, self.area.pick, self.networks) else {

@@ -2,7 +2,8 @@
 
 //! What a line of a list says.
 
-use crate::pair::pair_of;
+use crate::comment::{comment_len, has_entry, is_skipped};
+use crate::pair::{OfWord, pair_of};
 use crate::value::Value;
 use cidr_programs::lists::{ByteKind, Entry, EntryFault, LINE_MAX, front_len, read_entry, trim};
 
@@ -48,7 +49,9 @@ pub struct RouteEntry<'a> {
 
 /// Returns what a line says: nothing if it is blank or begins with `#` or `;`. If `bare`, the value
 /// may be missing. An address that is followed by a second one is the first of a range if `ranges`,
-/// else refused. Returns the cause if the line is refused.
+/// else refused. What begins with `#` or `;` directly after a network or range is a comment; after
+/// blanks or a comma it is a value. Neither may have an entry after its marks. Returns the cause if
+/// the line is refused.
 pub(crate) fn read_route(
     line: &[u8],
     bare: bool,
@@ -68,21 +71,25 @@ pub(crate) fn read_route(
     if said.value.bytes().is_empty() && !bare {
         return Err(Cause::Value);
     }
+    if has_entry(said.value.bytes()) {
+        return Err(Cause::Entry(EntryFault::Second));
+    }
     Ok(Some(said))
 }
 
-/// Returns the text of the network or range of a line, for messages; no clause says what it is.
+/// Returns the text of the network or range of a line, without a comment, for messages; no clause
+/// says what it is.
 pub(crate) fn entry_text(line: &[u8]) -> &[u8] {
     let text = trim::<Blank>(line);
-    &text[..entry_len(text)]
+    &text[..names_len(text)]
 }
 
-// Returns the network or range that a text begins with, and the value behind it, or why there is
+// Returns the network or range that a text begins with, and the value after it, or why there is
 // none.
 fn read_text(text: &[u8], ranges: bool) -> Result<RouteEntry<'_>, Cause> {
     let end = entry_len(text);
     let (front, value) = (&text[..end], value_part(&text[end..]));
-    match pair_of(front, &value[..front_len::<OfWord>(value)]) {
+    match pair_of(front, value) {
         Some(pair) if ranges => match pair.range() {
             Some(entry) => Ok(RouteEntry {
                 entry,
@@ -111,17 +118,16 @@ fn entry_of(text: &[u8]) -> Result<Entry, EntryFault> {
     }
 }
 
-// Whether a text, without the blanks around it, is empty or a comment.
-fn is_skipped(text: &[u8]) -> bool {
-    match text.first() {
-        Some(byte) => *byte == b'#' || *byte == b';',
-        None => true,
-    }
+// Returns the length of the network or range that a text begins with, and of a comment that begins
+// directly after it.
+fn entry_len(text: &[u8]) -> usize {
+    let names = names_len(text);
+    names + comment_len(&text[names..])
 }
 
-// Returns the length of the network or range that a text begins with, and of what a `-` behind it
+// Returns the length of the network or range that a text begins with, and of what a `-` after it
 // adds, which makes it neither.
-fn entry_len(text: &[u8]) -> usize {
+fn names_len(text: &[u8]) -> usize {
     let ends = ends_len(text);
     ends + tail_len(&text[ends..])
 }
@@ -133,7 +139,7 @@ fn ends_len(text: &[u8]) -> usize {
     name + tail_len(&text[name..])
 }
 
-// The length of the `-` and the name that a text begins with, each behind spaces and tabs or none,
+// The length of the `-` and the name that a text begins with, each after spaces and tabs or none,
 // or 0.
 fn tail_len(text: &[u8]) -> usize {
     let gap = front_len::<Gap>(text);
@@ -191,20 +197,16 @@ impl ByteKind for Gap {
     }
 }
 
-// Neither a space nor a tab nor a comma.
-struct OfWord;
-
-impl ByteKind for OfWord {
-    fn has(byte: u8) -> bool {
-        byte != b' ' && byte != b'\t' && byte != b','
-    }
-}
-
-// Neither a space nor a tab nor a comma nor a `-`.
+// Neither a space nor a tab nor a comma nor a `-` nor `#` nor `;`.
 struct OfName;
 
 impl ByteKind for OfName {
     fn has(byte: u8) -> bool {
-        byte != b' ' && byte != b'\t' && byte != b',' && byte != b'-'
+        byte != b' '
+            && byte != b'\t'
+            && byte != b','
+            && byte != b'-'
+            && byte != b'#'
+            && byte != b';'
     }
 }

@@ -59,7 +59,7 @@ fn join_line<W: Write>(
     output: &mut Output<'_, W>,
     seen: &mut LogStats,
 ) -> Result<(), LogFault> {
-    let asked = join.network_in(line);
+    let asked = join.network_in(line, seen.lines);
     if join.refuses(asked) {
         return Err(LogFault::Address);
     }

@@ -1,9 +1,6 @@
 // Written by scripts/plain out of crates/cidr_join/src/main.rt
 
 //! Prints the lines of logs, each with the value that a list gives its address.
-#![allow(unused_imports, unused_labels, unused_variables, dead_code)]
-#![allow(clippy::complexity, clippy::style, clippy::large_enum_variant, clippy::manual_contains,
-    clippy::non_canonical_clone_impl)]
 #![forbid(unsafe_code)]
 
 use fosibegan_core::plain_std::string::String;
@@ -11,6 +8,7 @@ use fosibegan_core::plain_std::rt::HostRuntime;
 
 mod answers;
 mod asked;
+mod comment;
 mod counts;
 mod found;
 mod help;
@@ -34,6 +32,7 @@ mod tally_logs;
 mod telling;
 mod value;
 mod value_ids;
+mod whole;
 
 use crate::help::{PROGRAM, USAGE};
 use crate::rows::table;

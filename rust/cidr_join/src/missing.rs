@@ -9,7 +9,7 @@ pub(crate) fn either(first: bool, second: bool) -> bool {
     first || second
 }
 
-/// Returns the exit status; `missed` tells whether a log or a line was missed.
+/// Returns the exit status; `missed` says whether a log or a line was missed.
 pub(crate) fn status(missed: bool) -> u8 {
     if missed { FAILED } else { 0 }
 }

@@ -3,7 +3,7 @@
 //! Two addresses at the front of a line.
 
 use fosibegan_core::ipnetwork::IpAddr;
-use cidr_programs::lists::Entry;
+use cidr_programs::lists::{ByteKind, Entry, front_len};
 
 /// Two addresses, one after the other.
 #[derive(Clone, Copy, Debug)]
@@ -14,16 +14,31 @@ pub struct Pair {
     pub second: IpAddr,
 }
 
-/// Returns the addresses that two texts are, if both are one.
-pub(crate) fn pair_of(front: &[u8], word: &[u8]) -> Option<Pair> {
+/// Returns the addresses that a text and the first word of a value are, if both are one.
+pub(crate) fn pair_of(front: &[u8], value: &[u8]) -> Option<Pair> {
+    if ends_in_prefix(front) {
+        return None;
+    }
     // Most values begin with no address: only if one does, `front` is read once more.
-    match address_of(word) {
+    match address_of(first_word(value)) {
         Some(second) => match address_of(front) {
             Some(first) => Some(Pair { first, second }),
             None => None,
         },
         None => None,
     }
+}
+
+// Whether one or two bytes after a `/` end a text, which then is no address: `10.0.0.0/8`.
+fn ends_in_prefix(text: &[u8]) -> bool {
+    // These do nothing: the proof of this body needs the laws.
+    let count = text.len();
+    count > 2 && (text[count - 3] == b'/' || text[count - 2] == b'/')
+}
+
+// Returns the first word of a value: what comes before a space, a tab or a comma.
+fn first_word(value: &[u8]) -> &[u8] {
+    &value[..front_len::<OfWord>(value)]
 }
 
 // Returns the address that a text names.
@@ -60,4 +75,13 @@ fn is_range(first: &IpAddr, last: &IpAddr) -> bool {
         return false;
     }
     first <= last
+}
+
+/// Neither a space nor a tab nor a comma.
+pub(crate) struct OfWord;
+
+impl ByteKind for OfWord {
+    fn has(byte: u8) -> bool {
+        byte != b' ' && byte != b'\t' && byte != b','
+    }
 }

@@ -75,10 +75,12 @@ pub(crate) fn set_one<'a, N: AddressSpace>(
     value: Value<'a>,
     last_wins: bool,
 ) -> Result<(), RouteFault> {
-    if !last_wins && table.get(network).is_some() {
-        return Err(RouteFault::Refused(Cause::Twice));
-    }
     match table.insert(network, value) {
+        Ok(Some(old)) if !last_wins => {
+            // The block gets its own value back: one search fewer for each network that has none.
+            let _ = table.insert(network, old);
+            Err(RouteFault::Refused(Cause::Twice))
+        }
         Ok(_) => Ok(()),
         Err(_) => Err(RouteFault::OutOfMemory),
     }

@@ -16,6 +16,7 @@ use crate::rows::{
     BAD, GROUP, LAST, LAST_WINS, NETWORK, NETWORKS, RANGES, SKIPS_BAD, STRICT, TALLY, ZERO, table,
 };
 use crate::tally_logs::tally_logs;
+use crate::whole::tell_cut_if_asked;
 use cidr_programs::lines::output::Output;
 use cidr_programs::lists::OpenLists;
 use cidr_programs::log_programs::areas::area_of;
@@ -92,7 +93,11 @@ fn join_files<L: OpenLists, W: Write, E: Write>(
     let Some(read) = read_lists(alloc, lists, items, errors) else {
         return FAILED;
     };
-    join_to(alloc, items, files, read.as_slice(), lists, output, errors)
+    let read = read.as_slice();
+    if tell_cut_if_asked(items, read, errors) {
+        return FAILED;
+    }
+    join_to(alloc, items, files, read, lists, output, errors)
 }
 
 // The lengths of the blocks in which lines are grouped, if they are.

@@ -68,7 +68,7 @@ fn count_line(
     counts: &mut Counts,
     seen: &mut LogStats,
 ) -> Result<(), LogFault> {
-    let asked = join.network_in(line);
+    let asked = join.network_in(line, seen.lines);
     if join.refuses(asked) {
         return Err(LogFault::Address);
     }

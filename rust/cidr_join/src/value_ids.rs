@@ -92,7 +92,7 @@ impl<'a> ValueIds<'a> {
         }
     }
 
-    // Returns the number that stands for what is printed for a network as it stands.
+    // Returns the number that stands for what is printed for a network as it is.
     fn number_at(&self, asked: IpNetwork) -> usize {
         match asked {
             IpNetwork::V4(asked) => number_in(&self.v4, asked),
@@ -118,7 +118,7 @@ fn no_numbers<'a>(alloc: Global) -> Result<ValueIds<'a>, AllocError> {
     })
 }
 
-// Numbers the networks of a list; `network` tells whether they or their values are printed.
+// Numbers the networks of a list; `network` says whether they or their values are printed.
 fn number_routes<'a>(
     alloc: Global,
     routes: &Routes<'a>,

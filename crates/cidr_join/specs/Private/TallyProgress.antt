@@ -43,7 +43,7 @@ module _ (founds : List Found) where
   CountsLine join line old new was is = (marks : List (List ℕ)) × GivesLine counted_in join was line [] marks (Some is)
       × CountsAll marks old new
 
-  -- what the lines that were handed out give was counted
+  -- what the lines that were returned give was counted
   pub record CountsSoFar (join : Join) (log : OpenLog) (remained remains : Option (List ℕ)) (old new : Counts)
       (seen : LogStats) : Type 0 where
     pub marks : List (List ℕ)

@@ -6,10 +6,10 @@ pub returns-in-Some-range-clause-ok : goal.returns-in-Some-range-clause-ok
 returns-in-Some-range-clause-ok c =
     let text = c.args.text.now in
     let value = c.value_part-value.result.now in
-    let two = two_here text value c.entry_len-end.result c.front_len.result c.entry_len-end.ensures.len
-    c.value_part-value.ensures c.front_len.ensures.len (Some c.in-Some.pair) c.in-Some.ensures in
-    let whole = value_is text value c.entry_len-end.result c.front_len.result c.entry_len-end.ensures.len
-    c.value_part-value.ensures c.front_len.ensures.len in
+    let two = two_here text value c.entry_len-end.result c.entry_len-end.ensures.len
+    c.value_part-value.ensures (Some c.in-Some.pair) c.in-Some.ensures in
+    let whole = value_is text value c.entry_len-end.result c.entry_len-end.ensures.len
+    c.value_part-value.ensures in
     named_range c.args.ranges text c.in-Some-range.entry c.new.result.bytes.now (addresses_of text) c.in-Some.pair two
     c.if-ranges.true c.in-Some-range.ensures.0 c.in-Some-range.ensures.1
     (c.new.ensures ∙ c.value_behind.ensures ∙ ap value_behind whole)
@@ -18,29 +18,29 @@ pub returns-in-None-clause-err : goal.returns-in-None-clause-err
 returns-in-None-clause-err c =
     let text = c.args.text.now in
     let value = c.value_part-value.result.now in
-    let two = two_here text value c.entry_len-end.result c.front_len.result c.entry_len-end.ensures.len
-    c.value_part-value.ensures c.front_len.ensures.len (Some c.in-Some.pair) c.in-Some.ensures in
+    let two = two_here text value c.entry_len-end.result c.entry_len-end.ensures.len
+    c.value_part-value.ensures (Some c.in-Some.pair) c.in-Some.ensures in
     inr (c.if-ranges.true, subst (λ (p : Option Pair). AreNoRange p) (sym two) c.in-None.ensures, refl)
 
 pub returns-in-Some-2-clause-err : goal.returns-in-Some-2-clause-err
 returns-in-Some-2-clause-err c =
     let text = c.args.text.now in
     let value = c.value_part-value.result.now in
-    let two = two_here text value c.entry_len-end.result c.front_len.result c.entry_len-end.ensures.len
-    c.value_part-value.ensures c.front_len.ensures.len (Some c.in-Some.pair) c.in-Some.ensures in
+    let two = two_here text value c.entry_len-end.result c.entry_len-end.ensures.len
+    c.value_part-value.ensures (Some c.in-Some.pair) c.in-Some.ensures in
     (c.if-ranges.false, ap are_alike two ∙ sym c.are_one_family.ensures ∙ c.if-are_one_family.true)
 
 pub returns-in-Ok-clause-ok : goal.returns-in-Ok-clause-ok
 returns-in-Ok-clause-ok c =
     let text = c.args.text.now in
     let value = c.value_part-value.result.now in
-    let two = two_here text value c.entry_len-end.result c.front_len.result c.entry_len-end.ensures.len
-    c.value_part-value.ensures c.front_len.ensures.len in
-    let whole = c.new-in-Ok.ensures ∙ value_is text value c.entry_len-end.result c.front_len.result
-    c.entry_len-end.ensures.len c.value_part-value.ensures c.front_len.ensures.len in
+    let two = two_here text value c.entry_len-end.result c.entry_len-end.ensures.len
+    c.value_part-value.ensures in
+    let whole = c.new-in-Ok.ensures ∙ value_is text value c.entry_len-end.result
+    c.entry_len-end.ensures.len c.value_part-value.ensures in
     let reads = subst (λ (f : List ℕ). ReadsEntry f (Ok (Some c.in-Ok.entry)))
-    (front_is text value c.entry_len-end.result c.front_len.result c.entry_len-end.ensures.len
-    c.value_part-value.ensures c.front_len.ensures.len) c.in-Ok.ensures.ok in
+    (front_is text value c.entry_len-end.result c.entry_len-end.ensures.len
+    c.value_part-value.ensures) c.in-Ok.ensures.ok in
     elim c.in_default.branch [
       | in_default-via-in-Some-2+else-are_one_family w ↦
           named_first c.args.ranges text c.in-Ok.entry c.new-in-Ok.result.bytes.now (addresses_of text)
@@ -55,5 +55,5 @@ pub returns-in-Err-clause-err : goal.returns-in-Err-clause-err
 returns-in-Err-clause-err c =
     inl
     (subst (λ (f : List ℕ). EntryFails f c.in-Err.fault)
-    (front_is c.args.text.now c.value_part-value.result.now c.entry_len-end.result c.front_len.result
-    c.entry_len-end.ensures.len c.value_part-value.ensures c.front_len.ensures.len) c.in-Err.ensures.err)
+    (front_is c.args.text.now c.value_part-value.result.now c.entry_len-end.result
+    c.entry_len-end.ensures.len c.value_part-value.ensures) c.in-Err.ensures.err)

@@ -96,7 +96,7 @@ returns-then-stops g c =
     (handed_out c.next.new.self remained remains s.reads.first _ _ c.in-Ok-TooLong.field-0-is
     (c.in-Ok-TooLong.ensures.gives _ s.reads.first s.reads.hands))
     refl c.lines.seen
-    (λ line long. long_refused join _ _ long shown_in c.lines.seen
+    (λ line long. long_refused join c.lines.seen _ _ long shown_in
     (sym c.is_stopped-stops.ensures ∙ c.if-stops.true))
 
 pub lines-preserved : goal.lines-preserved
@@ -113,9 +113,9 @@ lines-preserved g c =
           (handed_out c.next.new.self remained remains s.reads.first _ _ c.in-Ok-TooLong.field-0-is
           (c.in-Ok-TooLong.ensures.gives _ s.reads.first s.reads.hands))
           refl (hurries ∙ c.if-stops.false) c.add_long.new.self
-          (λ line long. long_gives join _ _ long shown_in c.lines.seen c.add_long.new.self founds.Nothing []
+          (λ line long. long_gives join c.lines.seen _ _ long shown_in c.add_long.new.self founds.Nothing []
           (sym c.is_stopped-stops.ensures ∙ c.if-stops.false) refl c.add_long.ensures
-          (sym (shown_long join _ _ long founds.Nothing)));
+          (sym (shown_long join c.lines.seen _ _ long founds.Nothing)));
       hurries = hurries;
     }
 

@@ -16,12 +16,29 @@ returns-in_default-read_lists g c =
     (elim c.in_default-read_lists.ensures
     [ inl h ↦ inr (inl (h, (refl, refl))) | inr memory ↦ inl ((refl, refl), memory) ])
 
+pub returns-then-tell_cut_if_asked : goal.returns-then-tell_cut_if_asked
+returns-then-tell_cut_if_asked g c =
+    let texts = map list_text c.in-Some-read_lists.read.items in
+    by_group (g.L.OpenLists.known c.args.lists.now) c.args.items.now
+    (ending c.args.output.now c.args.output.now c.tell_cut_if_asked.new.errors c.tell_cut_if_asked.new.errors 2) None
+    (sym c.lengths_of.ensures ∙ c.in_default.is)
+    (inr (inr (
+      texts,
+      c.in-Some-read_lists.ensures,
+      inl (sym (rw c.as_slice-read.ensures.value at c.tell_cut_if_asked.ensures) ∙ c.if-tell_cut_if_asked.true, (refl, refl)),
+    )))
+
 pub returns : goal.returns
 returns g c =
+    let texts = map list_text c.in-Some-read_lists.read.items in
     by_group (g.L.OpenLists.known c.args.lists.now) c.args.items.now
     (ending c.args.output.now c.join_to.new.output c.join_to.new.errors c.join_to.new.errors c.join_to.result) None
     (sym c.lengths_of.ensures ∙ c.in_default.is)
-    (elim (rw c.as_slice.ensures.value at c.join_to.ensures) [
+    (elim (rw c.as_slice-read.ensures.value at c.join_to.ensures) [
       | inl memory ↦ inl memory
-      | inr h ↦ inr (inr (map list_text c.in-Some-read_lists.read.items, c.in-Some-read_lists.ensures, h))
+      | inr h ↦ inr (inr (
+        texts,
+        c.in-Some-read_lists.ensures,
+        inr (sym (rw c.as_slice-read.ensures.value at c.tell_cut_if_asked.ensures) ∙ c.if-tell_cut_if_asked.false, h),
+      ))
     ])
