@@ -5,7 +5,7 @@ pub failed_now : (was now : Bool) → now ≡ (was || true) → now ≡ true
 failed_now true now e = e
 failed_now false now e = e
 
--- the writer failed, now or behind a text
+-- the writer failed, now or after a text
 pub failed_all : {W T E : Type 0} (result : Result T E) (old mid new : Written W) (text : List ℕ)
     → Prints old mid text
     → new.failed ≡ (mid.failed || is_err result) → OnErr result (AppendsBeginning mid.holds new.holds mid.waits)

@@ -1,7 +1,7 @@
 -- What is printed of networks, one after the other.
 use Rattle.cidr_info.proofs.Words.{◌≡◌, ◌<◌, ◌+◌, ◌&&◌, ◌∙◌, ℕ, Bool, true, false, List, ◌++◌, refl, sym, ap, append-nil, length, drop, get_or, at_drop_more, Option, None, Some, is_none, IpNetwork, Form, separator, info_text, infos_from, if_some, networks_in}
 
--- those of a text, and those of the texts behind it
+-- those of a text, and those of the texts after it
 pub infos_more : (is_first : Bool) (form : Form) (network : Option IpNetwork) (networks : List IpNetwork)
     → infos_from is_first form (if_some network ++ networks)
     ≡ infos_from is_first form (if_some network) ++ infos_from (is_first && is_none network) form networks
@@ -14,7 +14,7 @@ infos_more false form (Some network) networks =
     ap (λ (t : List ℕ). t ++ infos_from false form networks)
     (sym (append-nil (separator false form ++ info_text form network)))
 
--- a text, and those behind it
+-- a text, and those after it
 pub networks_at : (all : List (Option IpNetwork)) (i : ℕ) (network : Option IpNetwork) → i < length all → network
     ≡ get_or all i network
     → networks_in (drop i all) ≡ if_some network ++ networks_in (drop (i + 1) all)

@@ -28,17 +28,17 @@ abbrev pub padded_name : Field → List ℕ
 padded_name says.Zones = codes "reverse" ++ replicate 6 32
 padded_name field = name_of field ++ replicate (13 - length (name_of field)) 32
 
--- what stands before a member of a JSON object: `{` before the first one, and a comma before each other
+-- what comes before a member of a JSON object: `{` before the first one, and a comma before each other
 abbrev pub opening : Field → List ℕ
 opening says.Address = codes "{"
 opening field = codes ","
 
--- what stands before the value of a member of a JSON object: `[` if it is an array, that of the zones
+-- what comes before the value of a member of a JSON object: `[` if it is an array, that of the zones
 abbrev pub bracket : Field → List ℕ
 bracket says.Zones = codes "["
 bracket field = []
 
--- what stands before a string in a JSON object: before the first of a field its name as a string and a colon, before
+-- what comes before a string in a JSON object: before the first of a field its name as a string and a colon, before
 -- each other a comma; and a quote
 abbrev pub before_string : Field → Bool → List ℕ
 before_string field true = opening field ++ codes "\"" ++ name_of field ++ codes "\":" ++ bracket field ++ codes "\""
@@ -51,7 +51,7 @@ closing says.Zones true = codes "\"]"
 closing says.Hexadecimal is_last = codes "\"}\n"
 closing field is_last = codes "\""
 
--- what stands before a value of a field: the name of the field, unless zones are printed alone; or what opens a string
+-- what comes before a value of a field: the name of the field, unless zones are printed alone; or what opens a string
 abbrev pub before_value : Form → Field → Bool → List ℕ
 before_value forms.Lines field is_first = padded_name field
 before_value forms.Json field is_first = before_string field is_first
@@ -62,7 +62,7 @@ abbrev pub behind_value : Form → Field → Bool → List ℕ
 behind_value forms.Json field is_last = closing field is_last
 behind_value form field is_last = codes "\n"
 
--- a value of a field as it is printed: what stands before it, the value, and what follows it
+-- a value of a field as it is printed: what comes before it, the value, and what follows it
 abbrev pub value_text : Form → IpNetwork → Field → ℕ → Bool → List ℕ
 value_text form network field place is_last =
     before_value form field (place == 0) ++ value_of field network place ++ behind_value form field is_last
@@ -77,7 +77,7 @@ row_text form network field =
 unfoldable pub info_text : Form → IpNetwork → List ℕ
 info_text form network = flat_map (row_text form network) fields
 
--- what stands before a network: an empty line before the lines of each but the first
+-- what comes before a network: an empty line before the lines of each but the first
 abbrev pub separator : Bool → Form → List ℕ
 separator false forms.Lines = codes "\n"
 separator is_first form = []

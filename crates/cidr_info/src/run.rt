@@ -8,12 +8,12 @@ ghost use Rattle.cidr_info.specs.Runs.{EndsAs, EndsReading, EndsSaid, LacksMemor
 ghost use Rattle.cidr_info.specs.Words.{words_said};
 
 use crate::field::Form;
-use crate::help::{HELP, PROGRAM, USAGE, VERSION};
+use crate::help::{HELP, PROGRAM, VERSION};
 use crate::printing::put_infos;
 use crate::rows::{IN, JSON, NO_NETWORK, ZONES, table};
 use crate::said::{Said, network_in};
 use crate::said_words::{reads_input, words_said};
-use crate::telling::{tell_input_fault, tell_refusals};
+use crate::telling::{refuse_words, tell_input_fault, tell_refusals};
 use ipnetwork::{IpNetwork, laws};
 use lines::fault::RunFault;
 use lines::output::Output;
@@ -23,7 +23,6 @@ use options::given::{is_given, value_of};
 use options::items::{Item, Text};
 use options::operands::operands_fault;
 use options::reading::items_of;
-use options::refusing::refuse;
 use options::table::Table;
 use program::ending::{FAILED, end, print_text};
 use program::memory::refuse_memory;
@@ -53,7 +52,7 @@ pub(crate) fn run<L: OpenLists, W: Write, E: Write>(
         return refuse_memory(PROGRAM, errors);
     };
     if let Some(fault) = fault_of(&table, items.as_slice()) {
-        return refuse(PROGRAM, USAGE, table.rows, &fault, errors);
+        return refuse_words(table.rows, &fault, errors);
     }
     read(alloc, items.as_slice(), lists, output, errors)
 }

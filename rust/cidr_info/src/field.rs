@@ -58,7 +58,7 @@ pub(crate) const FIELDS: [Field; 12] = [
     Field::Hexadecimal,
 ];
 
-/// Returns what stands before a value of a field, which may be the first one: on lines the name of
+/// Returns what comes before a value of a field, which may be the first one: on lines the name of
 /// the field, padded with spaces to the column of the values; in JSON what opens its string.
 pub(crate) fn before_value(form: Form, field: Field, is_first: bool) -> &'static str {
     match form {
@@ -86,7 +86,7 @@ fn padded_name(field: Field) -> &'static str {
     }
 }
 
-// Returns what stands before a value of a field in a JSON object, up to the quote that opens its
+// Returns what comes before a value of a field in a JSON object, up to the quote that opens its
 // string.
 fn before_string(field: Field, is_first: bool) -> &'static str {
     if is_first {
@@ -96,7 +96,7 @@ fn before_string(field: Field, is_first: bool) -> &'static str {
     }
 }
 
-// Returns what stands before the first value of a field in a JSON object.
+// Returns what comes before the first value of a field in a JSON object.
 fn before_first_string(field: Field) -> &'static str {
     match field {
         Field::Address => "{\"address\":\"",

@@ -14,7 +14,7 @@ Prints facts about IP networks: addresses, masks, sizes and names.
                     is the zone of the whole octets or nibbles, its array zones has all zones
     --zones         print only the reverse zones of each NETWORK, each on a line, in ascending order
                     of their addresses. Not with --json
-    --in OUTER      print nothing: the status tells whether every NETWORK lies within this network.
+    --in OUTER      print nothing: the status says whether every NETWORK lies within this network.
                     Not with --json or --zones
     --quiet         as the first word: do not show on a terminal how much was read
     --help          print this text, as does -h alone

@@ -1,9 +1,6 @@
 // Written by scripts/plain out of crates/cidr_info/src/main.rt
 
 //! Prints the addresses, masks, numbers and reverse names of networks.
-#![allow(unused_imports, unused_labels, unused_variables, dead_code)]
-#![allow(clippy::complexity, clippy::style, clippy::large_enum_variant, clippy::manual_contains,
-    clippy::non_canonical_clone_impl)]
 #![forbid(unsafe_code)]
 
 use fosibegan_core::plain_std::rt::HostRuntime;

@@ -43,7 +43,7 @@ fn put_if_named<W: Write>(
     }
 }
 
-// Returns what stands before a network: an empty line before the lines of each but the first.
+// Returns what comes before a network: an empty line before the lines of each but the first.
 fn separator(is_first: bool, form: Form) -> &'static str {
     match form {
         Form::Lines if !is_first => "\n",

@@ -5,12 +5,12 @@
 use fosibegan_core::plain_std::vec::Vec;
 use fosibegan_core::plain_std::string::String;
 use crate::field::Form;
-use crate::help::{HELP, PROGRAM, USAGE, VERSION};
+use crate::help::{HELP, PROGRAM, VERSION};
 use crate::printing::put_infos;
 use crate::rows::{IN, JSON, NO_NETWORK, ZONES, table};
 use crate::said::{Said, network_in};
 use crate::said_words::{reads_input, words_said};
-use crate::telling::{tell_input_fault, tell_refusals};
+use crate::telling::{refuse_words, tell_input_fault, tell_refusals};
 use fosibegan_core::ipnetwork::IpNetwork;
 use cidr_programs::lines::fault::RunFault;
 use cidr_programs::lines::output::Output;
@@ -20,7 +20,6 @@ use cidr_programs::options::given::{is_given, value_of};
 use cidr_programs::options::items::{Item, Text};
 use cidr_programs::options::operands::operands_fault;
 use cidr_programs::options::reading::items_of;
-use cidr_programs::options::refusing::refuse;
 use cidr_programs::options::table::Table;
 use cidr_programs::program::ending::{FAILED, end, print_text};
 use cidr_programs::program::memory::refuse_memory;
@@ -47,7 +46,7 @@ pub(crate) fn run<L: OpenLists, W: Write, E: Write>(
         return refuse_memory(PROGRAM, errors);
     };
     if let Some(fault) = fault_of(&table, items.as_slice()) {
-        return refuse(PROGRAM, USAGE, table.rows, &fault, errors);
+        return refuse_words(table.rows, &fault, errors);
     }
     read(alloc, items.as_slice(), lists, output, errors)
 }

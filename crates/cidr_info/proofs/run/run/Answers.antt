@@ -14,14 +14,14 @@ pub returns-in-Some-fault_of : goal.returns-in-Some-fault_of
 returns-in-Some-fault_of g c =
     let table = c.table-table.result in
     let known = g.L.OpenLists.known c.args.lists.now in
-    let end = ending c.args.output.now c.args.output.now c.args.errors.now c.refuse.new.errors c.refuse.result in (
+    let end = ending c.args.output.now c.args.output.now c.args.errors.now c.refuse_words.new.errors c.refuse_words.result in (
       table,
       c.table-table.ensures,
       not_asked HELP.now VERSION.now c.args.words.now _ end c.in_default.ensures
           (inr (subst (λ (items : List Item). EndsItems table known items end) c.in-Ok.ensures
           (inl (
             sym (c.in-Some-fault_of.ensures ∙ ap (are_right table) c.as_slice.ensures.value),
-            (refl, c.refuse.ensures),
+            (refl, c.refuse_words.ensures),
           )))),
     )
 

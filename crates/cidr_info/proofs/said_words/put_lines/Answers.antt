@@ -1,7 +1,7 @@
 use Rattle.cidr_info.proofs.Known.{◌≡◌, ◌∙◌, ◌++◌, ◌+◌, ◌-◌, List, [], ◌∷◌, ℕ, take, drop, ap, refl, sym, subst, OnOk, take_rest, append_assoc, append-nil, arith, drop-drop, Option, IpNetwork, IsNext, first_behind, none_behind, split_text, last_line, lines_last, lines_line, lines, strip_carriage_return, lines_said, line_said}
 use Rattle.cidr_info.proofs.said_words.put_lines.Goals as goal
 
--- a line that a line feed ends, and those behind it
+-- a line that a line feed ends, and those after it
 lines_at : (text : List ℕ) (at end : ℕ) → IsNext 10 text at end
     → lines_said (lines (drop at text))
     ≡ line_said (strip_carriage_return (take (end - at) (drop at text))) ++ lines_said (lines (drop (end + 1) text))
