@@ -5,8 +5,8 @@
 #
 # usage: examples/cidr/find_in_parts.sh ROUTES < INPUT > OUTPUT
 #
-# ROUTES is a file of lines such as `add 10.0.0.0/8 1`, which is read once, so that it may be a pipe. The status is 0, or
-# 2 if anything failed. Without GNU parallel, the parts are answered one after the other.
+# ROUTES is a file of lines such as `add 10.0.0.0/8 1`, which is read once, so that it may be a pipe. The status is 0,
+# or 2 if anything failed. Without GNU parallel, the parts of a pipe are answered one after the other.
 set -eEu -o pipefail
 . "$(dirname "$0")/../parts.sh" || exit 2
 . "$(dirname "$0")/../program.sh"

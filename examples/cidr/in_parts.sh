@@ -4,9 +4,9 @@
 #
 # usage: examples/cidr/in_parts.sh [OPTION ..] < INPUT > OUTPUT
 #
-# The options are `--block`, `--jobs` and `--sshlogin` of GNU parallel. With `--sshlogin ONE,TWO` the parts go to these
-# machines, which need the program at the same path. Without GNU parallel, the parts are answered one after the other;
-# the options do nothing then. The status is 0, or 2 if anything failed.
+# The options are `--block`, `--jobs` and `--sshlogin` of GNU parallel. With `--sshlogin ONE,TWO` the parts go to
+# these machines, which need the program at the same path. Without GNU parallel, the parts of a pipe are answered one
+# after the other; --block does nothing then. The status is 0, or 2 if anything failed.
 set -eEu -o pipefail
 . "$(dirname "$0")/../parts.sh" || exit 2
 . "$(dirname "$0")/../program.sh"

@@ -1,4 +1,4 @@
--- What follows from how a run ended, if the contracts of the reader and the writer tell their bytes.
+-- What follows from how a run ended, if the contracts of the reader and the writer give their contents.
 use Rattle.cidr.proofs.Words.{◌≡◌, ℕ, ◌<◌, ◌≤◌, List, ◌++◌, length, take, sym, ap, ◌∙◌, subst, append-nil, append_cancel_right, take-append_seam, Result, Err, RunFault, Read, Write, InputTooLong, complete_part, IsBeginning, IsOutput, Ran, BeginsOutput, AfterOk, AfterReadFault, AfterWriteFault, AfterTooLong}
 use Rattle.std.specs.Prelude.{Option, None, Some}
 

@@ -97,7 +97,7 @@ begins limit room held left holds now all h going same = record {
   answers = subst (λ (a : Standing). Answered (begun holds) a []) (sym same) (no_answers (begun holds));
 }
 
--- one more line was handed out and answered
+-- one more line was returned and answered
 one_more : (limit room : ℕ) (old new : Buffered) (left rest : Option (List ℕ)) (start a b : Standing) (end : LineEnd)
     (line : List ℕ) → (s : RunSoFar limit room old left rest start a)
     → HandsOut new s.pending line end → new.ended ≡ old.ended → Answered a b (line ∷ [])

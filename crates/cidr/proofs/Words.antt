@@ -57,7 +57,7 @@ pub use Rattle.ipnetwork_table.specs.Laws.{AnswerIsComputed, AnswerIsOne, EmptyH
 pub use Rattle.ipnetwork_table.specs.Table.{Answers, HasNoHostBits}
 pub use Rattle.lines.proofs.BytesLemmas.{HasNo, IsFirst, first_behind, none_behind, split_at, split_cons, split_none, split_text}
 pub use Rattle.lines.proofs.FirstLines.{are_all, first_still, handed}
-pub use Rattle.lines.proofs.HandingOut.{has_no}
+pub use Rattle.lines.proofs.ReturnedLines.{has_no}
 unfoldable pub use Rattle.lines.proofs.Lines.{last_line, pending_from}
 pub use Rattle.lines.proofs.Lines.{begins_after, begins_longer, begins_with_nothing, first_are_complete, lines-append, lines_from, lines_split, pending-append}
 pub use Rattle.lines.proofs.Putting.{on_err_any, puts_more, puts_nothing, puts_out, puts_waiting}

@@ -30,7 +30,7 @@ EndsAs limit unread_after (Err InputTooLong) read written = (limit < length read
 -- a beginning of an output for what was read
 EndsAs limit unread_after (Err Write) read written = (length read ≤ limit) × BeginsOutput read written
 
--- what a run did, if the contracts of the reader and the writer tell their bytes
+-- what a run did, if the contracts of the reader and the writer give their contents
 pub record Ran (limit : ℕ) (unread_before unread_after written_before written_after : Option (List ℕ))
     (result : Result (Unit {0}) RunFault) : Type 0 where
   -- the bytes that were read
@@ -44,8 +44,8 @@ pub record Ran (limit : ℕ) (unread_before unread_after written_before written_
   -- which part of the input and of its output these are
   pub ends : EndsAs limit unread_after result read written
 
--- what a run promises, for this limit and the reader and the writer before and after it. `remaining` gives what a
--- reader has left, and `contents` what a writer holds, if their contracts tell
+-- what a run promises, for this limit and the reader and the writer before and after it. `remaining` is what a reader
+-- has left, and `contents` what a writer holds, if their contracts give it
 pub record IsRun {R W : Type 0} (remaining : R → Option (List ℕ)) (contents : W → Option (List ℕ)) (limit : ℕ)
     (reader_before reader_after : Watched R) (writer_before writer_after : Watched W)
     (result : Result (Unit {0}) RunFault) : Type 0 where

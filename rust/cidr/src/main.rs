@@ -1,9 +1,6 @@
 // Written by scripts/plain out of crates/cidr/src/main.rt
 
 //! Answers each line of standard input on standard output.
-#![allow(unused_imports, unused_labels, unused_variables, dead_code)]
-#![allow(clippy::complexity, clippy::style, clippy::large_enum_variant, clippy::manual_contains,
-    clippy::non_canonical_clone_impl)]
 #![forbid(unsafe_code)]
 
 use fosibegan_core::plain_std::rt::HostRuntime;

@@ -49,8 +49,8 @@ pub fn run<R: Read, W: Write>(
 /// Two facts are only tested: if a read passes the limit, none of the lines that it completes is
 /// answered; and the writer is flushed once, after the last answer.
 ///
-/// The promises about bytes apply to a reader and a writer whose contracts tell their bytes, as do
-/// those over memory. Standard input and output do not.
+/// The promises about bytes apply to a reader and a writer whose contracts give their contents, as
+/// those of readers and writers of memory do. Those of standard input and output do not.
 ///
 /// A run starts with no routes and frees its routes at the end. Only an `add` of a new block
 /// allocates, from `alloc`. If memory runs out, its answer says so, the routes do not change, and

@@ -11,7 +11,7 @@ use Rattle.cidr.specs.Routes.{Routes, no_routes}
 use Rattle.cidr.specs.Turns as turns
 
 pub record Standing : Type 0 where
-  -- the bytes that the writer holds, if its contract tells
+  -- the bytes that the writer holds, if its contract gives them
   pub holds : Option (List ℕ)
   -- the replies that wait to be written
   pub waits : List ℕ

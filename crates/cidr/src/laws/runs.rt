@@ -1,9 +1,5 @@
-//! The laws of runs and of their faults.
-ghost use Rattle.std.specs.Prelude.{◌≡◌, ◌↔◌, IsTrue, Ok, Result};
+//! The laws of runs.
 ghost use Rattle.cidr.specs.Laws.Runs.{AfterOk, AfterReadFault, AfterWriteFault, AfterTooLong};
-
-use lines::fault::RunFault;
-use std::alloc::AllocError;
 
 /// After Ok, the input was within the limit, and an output for it was written.
 pub fn after_ok()
@@ -26,17 +22,3 @@ pub fn after_a_write_fault()
 pub fn after_too_long_an_input()
     ensures { AfterTooLong }
 {}
-
-/// Two faults are equal exactly if they are the same fault.
-pub fn fault_equality(a: RunFault, b: RunFault) -> bool
-    ensures { IsTrue result ↔ (a ≡ b) }
-{
-    a == b
-}
-
-/// A clone of a fault is the same fault, and cloning never fails.
-pub fn fault_clone(fault: RunFault) -> Result<RunFault, AllocError>
-    ensures { result ≡ Ok fault }
-{
-    fault.clone()
-}

@@ -1,6 +1,6 @@
 //! What follows from the laws of this crate. Nothing calls these functions: each needs one law, and
 //! is not proved without it.
-ghost use Rattle.std.specs.Prelude.{◌≡◌, ◌↔◌, ◌<◌, ◌≤◌, ℕ, List, ◌++◌, IsFalse, IsTrue, codes, length};
+ghost use Rattle.std.specs.Prelude.{◌≡◌, ◌↔◌, ◌<◌, ◌≤◌, ℕ, List, ◌++◌, codes, length};
 ghost use Rattle.std.specs.List.{AllByRecursion};
 ghost use Rattle.std.specs.Str.Lines.{lines};
 ghost use Rattle.cidr.specs.Computed.Output.{output_of};
@@ -15,12 +15,11 @@ ghost use Rattle.cidr.specs.Words.{words};
 
 use super::{
     a_run_begins_with_no_routes, after_a_read_fault, after_a_write_fault, after_ok,
-    after_too_long_an_input, fault_clone, fault_equality, has_answers_membership,
-    has4_answers_membership, lines_about_one_network, lines_about_routes, lines_about_sets,
-    other_lines, output_without_refusals, plain_lines_ask_nothing, rel_answers_sets,
-    routes_by_sets, split_at_line_ends,
+    after_too_long_an_input, has_answers_membership, has4_answers_membership,
+    lines_about_one_network, lines_about_routes, lines_about_sets, other_lines,
+    output_without_refusals, plain_lines_ask_nothing, rel_answers_sets, routes_by_sets,
+    split_at_line_ends,
 };
-use lines::fault::RunFault;
 
 fn a_network_is_read()
     ensures read4 { Read4Law }
@@ -139,22 +138,4 @@ fn a_long_input_has_its_lines()
     ensures { AfterTooLong }
 {
     after_too_long_an_input();
-}
-
-fn faults_are_apart() -> bool
-    ensures { IsFalse result }
-{
-    fault_equality(RunFault::Read, RunFault::Write)
-}
-
-fn a_fault_is_equal(fault: RunFault) -> bool
-    ensures { IsTrue result }
-{
-    fault_equality(fault, fault)
-}
-
-fn a_copy_is_equal(fault: RunFault) -> bool
-    ensures { IsTrue result }
-{
-    fault_clone(fault) == Ok(fault)
 }
