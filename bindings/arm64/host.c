@@ -1,6 +1,6 @@
 /* What the programs call that no C library of a system has, for Linux on ARM64 with glibc: the kit has it for x86-64 alone.
  * It is written by the contracts of the kit (its rattle/libc/src/heap.rt and rattle/os/src/c.rt). The proofs take these
- * contracts as they stand, and read nothing of this file; tests/arm64 runs the programs that scripts/arm64 links with it.
+ * contracts as they are, and read nothing of this file; tests/arm64 runs the programs that scripts/arm64 links with it.
  */
 #include <assert.h>
 #include <errno.h>

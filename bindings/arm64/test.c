@@ -74,7 +74,7 @@ static void errors(void) {
     CHECK(errno == 0);
 }
 
-/* Each room for an argument, and what stands behind it. */
+/* Each room for an argument, and what is after it. */
 static void arguments(void) {
     unsigned char buffer[8] = "........";
     CHECK(rattle_arg(0, buffer, 0) == -2);

@@ -28,12 +28,12 @@ struct line {
  * and the ranges of the table with the place of the longest network of each, and their index. */
 struct fours {
     ipnetwork_v4 *networks, *blocks, *ranges;
-    size_t count, room, *places, *beside, range_count, index_length;
+    size_t count, room, *places, *range_places, range_count, index_length;
     uint32_t *index;
 };
 struct sixes {
     ipnetwork_v6 *networks, *blocks, *ranges;
-    size_t count, room, *places, *beside, range_count, index_length;
+    size_t count, room, *places, *range_places, range_count, index_length;
     uint32_t *index;
 };
 struct list {
@@ -142,13 +142,13 @@ static int make_fours(struct fours *list) {
     list->blocks = memory(count, sizeof *list->blocks);
     list->places = memory(count, sizeof *list->places);
     list->ranges = memory(most, sizeof *list->ranges);
-    list->beside = memory(most, sizeof *list->beside);
+    list->range_places = memory(most, sizeof *list->range_places);
     list->index = memory(list->index_length, sizeof *list->index);
-    return list->blocks && list->places && list->ranges && list->beside && list->index &&
+    return list->blocks && list->places && list->ranges && list->range_places && list->index &&
            ipnetwork_v4_table_make(list->networks, count, list->blocks, count, list->places, count) == IPNETWORK_OK &&
            ipnetwork_v4_table_index_make(list->blocks, count, list->index, list->index_length) == IPNETWORK_OK &&
            ipnetwork_v4_ranges_make_numbered(list->blocks, count, list->places, count, list->index, list->index_length,
-                                             list->ranges, most, list->beside, most,
+                                             list->ranges, most, list->range_places, most,
                                              &list->range_count) == IPNETWORK_OK &&
            ipnetwork_v4_table_index_make(list->ranges, list->range_count, list->index, list->index_length) == IPNETWORK_OK;
 }
@@ -160,13 +160,13 @@ static int make_sixes(struct sixes *list) {
     list->blocks = memory(count, sizeof *list->blocks);
     list->places = memory(count, sizeof *list->places);
     list->ranges = memory(most, sizeof *list->ranges);
-    list->beside = memory(most, sizeof *list->beside);
+    list->range_places = memory(most, sizeof *list->range_places);
     list->index = memory(list->index_length, sizeof *list->index);
-    return list->blocks && list->places && list->ranges && list->beside && list->index &&
+    return list->blocks && list->places && list->ranges && list->range_places && list->index &&
            ipnetwork_v6_table_make(list->networks, count, list->blocks, count, list->places, count) == IPNETWORK_OK &&
            ipnetwork_v6_table_index_make(list->blocks, count, list->index, list->index_length) == IPNETWORK_OK &&
            ipnetwork_v6_ranges_make_numbered(list->blocks, count, list->places, count, list->index, list->index_length,
-                                             list->ranges, most, list->beside, most,
+                                             list->ranges, most, list->range_places, most,
                                              &list->range_count) == IPNETWORK_OK &&
            ipnetwork_v6_table_index_make(list->ranges, list->range_count, list->index, list->index_length) == IPNETWORK_OK;
 }
@@ -185,9 +185,9 @@ static int has(const struct list *list, const ipnetwork_address *address, char t
     size_t length;
     ipnetwork_place found =
         address->length == 4
-            ? ipnetwork_v4_ranges_place(fours->ranges, fours->range_count, fours->beside, fours->range_count,
+            ? ipnetwork_v4_ranges_place(fours->ranges, fours->range_count, fours->range_places, fours->range_count,
                                         fours->index, fours->index_length, address->octets)
-            : ipnetwork_v6_ranges_place(sixes->ranges, sixes->range_count, sixes->beside, sixes->range_count,
+            : ipnetwork_v6_ranges_place(sixes->ranges, sixes->range_count, sixes->range_places, sixes->range_count,
                                         sixes->index, sixes->index_length, address->octets);
     if (found.place == IPNETWORK_NO_PLACE)
         return 0;
@@ -230,8 +230,8 @@ static int answer_all(const struct list *list, struct line *line) {
 static void leave(struct list *list, struct line *line) {
     struct fours *fours = &list->fours;
     struct sixes *sixes = &list->sixes;
-    void *all[] = {fours->networks, fours->blocks, fours->ranges, fours->places, fours->beside, fours->index,
-                   sixes->networks, sixes->blocks, sixes->ranges, sixes->places, sixes->beside, sixes->index,
+    void *all[] = {fours->networks, fours->blocks, fours->ranges, fours->places, fours->range_places, fours->index,
+                   sixes->networks, sixes->blocks, sixes->ranges, sixes->places, sixes->range_places, sixes->index,
                    line->text};
     for (size_t at = 0; at < sizeof all / sizeof *all; at++)
         free(all[at]);

@@ -31,7 +31,7 @@ SAME = [
     (r"v[46]_index_contains_column", {"answer_count", "fault_count"}),
     (r"v[46]_index_find_column", {"place_count", "fault_count"}),
     (r"v[46]_ranges_make", {"range_room", "place_room"}),
-    (r"v[46]_ranges_make_numbered", {"range_room", "beside_room"}),
+    (r"v[46]_ranges_make_numbered", {"range_room", "range_number_room"}),
     (r"v[46]_ranges_find_column", {"found_count", "fault_count"}),
     (r"(v[46]_)?read(_with_cause)?_column", {"network_count", "fault_count"}),
     (r"address_read_column", {"address_count", "fault_count"}),
@@ -69,7 +69,7 @@ def header(text):
     """A header with a function in the place of each call, and what the exchange of each number is."""
     lines = ["#pragma once", f'#include "{HEADER}"', "#include <stdlib.h>", "static long exchanged;"]
     lines.append('__attribute__((constructor)) static void choose(void) { exchanged = atol(getenv("EXCHANGED")); }')
-    told = []
+    calls = []
     for kind, call, inside in CALL.findall(re.sub(r"/\*.*?\*/", "", text, flags=re.S)):
         taken = parameters(inside)
         if len(taken) < 2:
@@ -79,11 +79,11 @@ def header(text):
         for pairs, names in exchanges(taken):
             order = {**dict(pairs), **{j: i for i, j in pairs}}
             given = [f"({it[0]})a{order.get(i, i)}" for i, it in enumerate(taken)]
-            lines.append(f"    if (exchanged == {len(told)}) return {call}({', '.join(given)});")
-            told.append((call, names))
+            lines.append(f"    if (exchanged == {len(calls)}) return {call}({', '.join(given)});")
+            calls.append((call, names))
         given = ", ".join(f"a{i}" for i in range(len(taken)))
         lines += [f"    return {call}({given});", "}", f"#define {call} exchanged_{call}"]
-    return "\n".join(lines) + "\n", told
+    return "\n".join(lines) + "\n", calls
 
 
 def fails(program, number, seconds="unlimited"):
@@ -101,7 +101,7 @@ def main():
     *compiler, library = sys.argv[1:]
     with tempfile.TemporaryDirectory() as room:
         room = pathlib.Path(room)
-        text, told = header(HEADER.read_text())
+        text, calls = header(HEADER.read_text())
         (room / HEADER.name).write_text(text)
         for file in ["test.c", "rows.h"]:
             shutil.copy(HERE / file, room)
@@ -112,15 +112,15 @@ def main():
         # With an exchange it may have no end.
         most = 10 + round(20 * (resource.getrusage(resource.RUSAGE_CHILDREN).ru_utime - before))
         with concurrent.futures.ThreadPoolExecutor(os.cpu_count()) as pool:
-            seen = list(pool.map(lambda number: fails(room / "test", number, most), range(len(told))))
+            seen = list(pool.map(lambda number: fails(room / "test", number, most), range(len(calls))))
     wrong = 0
-    for (call, names), is_seen in zip(told, seen):
+    for (call, names), is_seen in zip(calls, seen):
         same = any(re.fullmatch(f"ipnetwork_{of}", call) and names == both for of, both in SAME)
         if is_seen == same:
             wrong += 1
             how = "should change nothing, but the test fails" if same else "is not seen"
             print(f"{call}: the exchange of {' with '.join(sorted(names))} {how}", file=sys.stderr)
-    print(f"C: {sum(seen)} exchanges of two arguments are seen, and {len(told) - sum(seen)} change no answer")
+    print(f"C: {sum(seen)} exchanges of two arguments are seen, and {len(calls) - sum(seen)} change no answer")
     return 1 if wrong else 0
 
 

@@ -237,9 +237,9 @@ IPNETWORK_CHECKED_AT((3)) ipnetwork_fault ipnetwork_address_read(const char *tex
 
 /* Writes the IPv4 address in an IPv4-mapped address, one of ::ffff:0:0/96 (RFC 4291, section 2.5.5.2), and any other
  * address as it is. A socket for both families reports its IPv4 peers as mapped addresses, which are found in lists of
- * IPv4 networks only after this. An entry such as ::ffff:10.0.0.0/104 or ::/0 has the IPv6 address as it stands: ask
+ * IPv4 networks only after this. An entry such as ::ffff:10.0.0.0/104 or ::/0 has the IPv6 address itself: ask
  * about both. What is said of either form counts: an IPv4-mapped IPv6 address is a member if the IPv4 address, or the
- * IPv6 address as it stands, is one; its longest network is that of the IPv4 address, and if there is none that of the
+ * IPv6 address itself, is one; its longest network is that of the IPv4 address, and if there is none that of the
  * IPv6 address; and so for a network within ::ffff:0:0/96. IPNETWORK_NO_FAMILY if the length in the struct is neither 4
  * nor 16. */
 IPNETWORK_CHECKED ipnetwork_fault ipnetwork_address_unmapped(const ipnetwork_address *address,
@@ -420,18 +420,18 @@ IPNETWORK_CHECKED_AT((9)) ipnetwork_fault ipnetwork_v6_ranges_make(const ipnetwo
     const uint32_t *index, size_t index_length, ipnetwork_v6 *IPNETWORK_ALONE ranges, size_t range_room,
     size_t *IPNETWORK_ALONE places, size_t place_room, size_t *IPNETWORK_ALONE range_count);
 
-/* The same, but beside[i] is, instead of the place of the longest block, the number at that place in numbers. If
+/* The same, but range_numbers[i] is, instead of the place of the longest block, the number at that place in numbers. If
  * numbers are the places of a table, as ipnetwork_v4_table_make and ipnetwork_v6_table_make leave them, it is the
  * number of the block's network in the caller's list. IPNETWORK_SHORT_BUFFER, before any other fault, if number_count
- * is less than block_count. Pass beside as places to the next calls; they take a number IPNETWORK_NO_PLACE as no
+ * is less than block_count. Pass range_numbers as places to the next calls; they take a number IPNETWORK_NO_PLACE as no
  * block. */
 IPNETWORK_CHECKED_AT((11)) ipnetwork_fault ipnetwork_v4_ranges_make_numbered(const ipnetwork_v4 *blocks, size_t block_count,
     const size_t *numbers, size_t number_count, const uint32_t *index, size_t index_length,
-    ipnetwork_v4 *IPNETWORK_ALONE ranges, size_t range_room, size_t *IPNETWORK_ALONE beside, size_t beside_room,
+    ipnetwork_v4 *IPNETWORK_ALONE ranges, size_t range_room, size_t *IPNETWORK_ALONE range_numbers, size_t range_number_room,
     size_t *IPNETWORK_ALONE range_count);
 IPNETWORK_CHECKED_AT((11)) ipnetwork_fault ipnetwork_v6_ranges_make_numbered(const ipnetwork_v6 *blocks, size_t block_count,
     const size_t *numbers, size_t number_count, const uint32_t *index, size_t index_length,
-    ipnetwork_v6 *IPNETWORK_ALONE ranges, size_t range_room, size_t *IPNETWORK_ALONE beside, size_t beside_room,
+    ipnetwork_v6 *IPNETWORK_ALONE ranges, size_t range_room, size_t *IPNETWORK_ALONE range_numbers, size_t range_number_room,
     size_t *IPNETWORK_ALONE range_count);
 
 /* Find what ipnetwork_v4_index_find and ipnetwork_v6_index_find find in a table, but by its ranges and their places, as

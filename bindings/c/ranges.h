@@ -9,7 +9,7 @@
 
 #include "ipnetwork.h"
 
-_Static_assert(sizeof(size_t) == sizeof(int64_t), "the numbers beside ranges are searched as places");
+_Static_assert(sizeof(size_t) == sizeof(int64_t), "the numbers of ranges are searched as places");
 
 /* Structs of one family, with addresses of 4 or 16 octets, and their index, which may have length 0. */
 typedef struct {
@@ -51,29 +51,29 @@ static inline ipnetwork_fault list_index(size_t width, const uint8_t *structs, s
     return ipnetwork_v6_table_index_make((const ipnetwork_v6 *)structs, count, index, length);
 }
 
-/* Divides a table into ranges. There is room for two ranges for each block. Writes to beside the number of the longest
- * block of each range, or -1, which is IPNETWORK_NO_PLACE, if there is none. */
+/* Divides a table into ranges. There is room for two ranges for each block. Writes to range_numbers the number of the
+ * longest block of each range, or -1, which is IPNETWORK_NO_PLACE, if there is none. */
 static inline ipnetwork_fault table_ranges(const searched_list *table, const int64_t *numbers, uint8_t *ranges,
-                                           int64_t *beside, size_t *range_count) {
+                                           int64_t *range_numbers, size_t *range_count) {
     const size_t *given = (const size_t *)numbers;
-    size_t *told = (size_t *)beside, count = table->count;
+    size_t *places = (size_t *)range_numbers, count = table->count;
     if (table->width == 4)
         return ipnetwork_v4_ranges_make_numbered((const ipnetwork_v4 *)table->structs, count, given, count, table->index,
-                                                 table->index_length, (ipnetwork_v4 *)ranges, 2 * count, told, 2 * count,
+                                                 table->index_length, (ipnetwork_v4 *)ranges, 2 * count, places, 2 * count,
                                                  range_count);
     return ipnetwork_v6_ranges_make_numbered((const ipnetwork_v6 *)table->structs, count, given, count, table->index,
-                                             table->index_length, (ipnetwork_v6 *)ranges, 2 * count, told, 2 * count,
+                                             table->index_length, (ipnetwork_v6 *)ranges, 2 * count, places, 2 * count,
                                              range_count);
 }
 
 /* The number of the range that an address lies in, or -1, which is IPNETWORK_NO_PLACE as a place. */
 static inline int64_t number_of(const searched_list *ranges, const int64_t *numbers, const uint8_t *address) {
-    const size_t *beside = (const size_t *)numbers;
+    const size_t *places = (const size_t *)numbers;
     ipnetwork_place found =
         ranges->width == 4
-            ? ipnetwork_v4_ranges_place((const ipnetwork_v4 *)ranges->structs, ranges->count, beside, ranges->count,
+            ? ipnetwork_v4_ranges_place((const ipnetwork_v4 *)ranges->structs, ranges->count, places, ranges->count,
                                         ranges->index, ranges->index_length, address)
-            : ipnetwork_v6_ranges_place((const ipnetwork_v6 *)ranges->structs, ranges->count, beside, ranges->count,
+            : ipnetwork_v6_ranges_place((const ipnetwork_v6 *)ranges->structs, ranges->count, places, ranges->count,
                                         ranges->index, ranges->index_length, address);
     return (int64_t)found.place;
 }

@@ -168,7 +168,7 @@ static uint64_t table_column_v4(size_t i) {
 /* The same by an index, and sets of IPv6 networks with prefix lengths from 36 to 64, which all share the first 20
  * bits. */
 static ipnetwork_v6 set_six[MANY];
-static uint8_t searched_six[COUNT][16], told[COUNT];
+static uint8_t searched_six[COUNT][16], member_answers[COUNT];
 static uint32_t *index_set, *index_table, *index_six;
 static size_t length_set, length_table, length_six, set_six_count;
 
@@ -184,13 +184,13 @@ static uint32_t *make_index(size_t count, size_t *length) {
 /* The ranges of the table, and of a table of the IPv6 networks. */
 static ipnetwork_v4 ranges[2 * MANY];
 static ipnetwork_v6 table_six[MANY], ranges_six[2 * MANY];
-static size_t beside[2 * MANY], beside_six[2 * MANY], range_count, range_count_six, length_ranges, length_ranges_six;
+static size_t range_places[2 * MANY], range_places_six[2 * MANY], range_count, range_count_six, length_ranges, length_ranges_six;
 static uint32_t *index_ranges, *index_ranges_six;
 
 static void make_ranges(const ipnetwork_v6 *networks) {
     if (ipnetwork_v6_table_make(networks, MANY, table_six, MANY, places, MANY) != IPNETWORK_OK ||
-        ipnetwork_v4_ranges_make(table_blocks, MANY, NULL, 0, ranges, 2 * MANY, beside, 2 * MANY, &range_count) != IPNETWORK_OK ||
-        ipnetwork_v6_ranges_make(table_six, MANY, NULL, 0, ranges_six, 2 * MANY, beside_six, 2 * MANY, &range_count_six) != IPNETWORK_OK)
+        ipnetwork_v4_ranges_make(table_blocks, MANY, NULL, 0, ranges, 2 * MANY, range_places, 2 * MANY, &range_count) != IPNETWORK_OK ||
+        ipnetwork_v6_ranges_make(table_six, MANY, NULL, 0, ranges_six, 2 * MANY, range_places_six, 2 * MANY, &range_count_six) != IPNETWORK_OK)
         abort();
     index_ranges = make_index(range_count, &length_ranges);
     index_ranges_six = make_index(range_count_six, &length_ranges_six);
@@ -199,16 +199,16 @@ static void make_ranges(const ipnetwork_v6 *networks) {
         abort();
 }
 static uint64_t ranges_by(size_t i) {
-    return ipnetwork_v4_ranges_find(ranges, range_count, beside, range_count, index_ranges, length_ranges, searched[i], indexes) + indexes[0];
+    return ipnetwork_v4_ranges_find(ranges, range_count, range_places, range_count, index_ranges, length_ranges, searched[i], indexes) + indexes[0];
 }
 static uint64_t place_by(size_t i) {
-    return ipnetwork_v4_ranges_place(ranges, range_count, beside, range_count, index_ranges, length_ranges, searched[i]).place;
+    return ipnetwork_v4_ranges_place(ranges, range_count, range_places, range_count, index_ranges, length_ranges, searched[i]).place;
 }
 static uint64_t ranges_column_by(size_t i) {
-    return i != 0 ? 0 : ipnetwork_v4_ranges_find_column(ranges, range_count, beside, range_count, index_ranges, length_ranges, searched[0], COUNT, indexes, COUNT, faults, COUNT) + indexes[1];
+    return i != 0 ? 0 : ipnetwork_v4_ranges_find_column(ranges, range_count, range_places, range_count, index_ranges, length_ranges, searched[0], COUNT, indexes, COUNT, faults, COUNT) + indexes[1];
 }
 static uint64_t ranges_column_six(size_t i) {
-    return i != 0 ? 0 : ipnetwork_v6_ranges_find_column(ranges_six, range_count_six, beside_six, range_count_six, index_ranges_six, length_ranges_six, searched_six[0], COUNT, indexes, COUNT, faults, COUNT) + indexes[1];
+    return i != 0 ? 0 : ipnetwork_v6_ranges_find_column(ranges_six, range_count_six, range_places_six, range_count_six, index_ranges_six, length_ranges_six, searched_six[0], COUNT, indexes, COUNT, faults, COUNT) + indexes[1];
 }
 
 static void make_indexes(void) {
@@ -241,7 +241,7 @@ static uint64_t set_by(size_t i) {
     return ipnetwork_v4_index_contains(set_blocks, set_count, index_set, length_set, searched[i], &answer) + answer;
 }
 static uint64_t set_column_by(size_t i) {
-    return i != 0 ? 0 : ipnetwork_v4_index_contains_column(set_blocks, set_count, index_set, length_set, searched[0], COUNT, told, COUNT, faults, COUNT) + told[1];
+    return i != 0 ? 0 : ipnetwork_v4_index_contains_column(set_blocks, set_count, index_set, length_set, searched[0], COUNT, member_answers, COUNT, faults, COUNT) + member_answers[1];
 }
 static uint64_t table_by(size_t i) {
     return ipnetwork_v4_index_find(table_blocks, MANY, index_table, length_table, searched[i], indexes) + indexes[0];
@@ -254,7 +254,7 @@ static uint64_t six_by(size_t i) {
     return ipnetwork_v6_index_contains(set_six, set_six_count, index_six, length_six, searched_six[i], &answer) + answer;
 }
 static uint64_t six_column_by(size_t i) {
-    return i != 0 ? 0 : ipnetwork_v6_index_contains_column(set_six, set_six_count, index_six, length_six, searched_six[0], COUNT, told, COUNT, faults, COUNT) + told[1];
+    return i != 0 ? 0 : ipnetwork_v6_index_contains_column(set_six, set_six_count, index_six, length_six, searched_six[0], COUNT, member_answers, COUNT, faults, COUNT) + member_answers[1];
 }
 
 struct row {

@@ -113,18 +113,18 @@ static void texts(void) {
         struct row row = rows[i];
         ipnetwork_v4 four, four_before;
         ipnetwork_v6 six, six_before;
-        ipnetwork_ip ip, told, ip_before;
+        ipnetwork_ip ip, reported, ip_before;
         memset(&four_before, 0xa5, sizeof four);
         memset(&six_before, 0xa5, sizeof six);
         memset(&ip_before, 0xa5, sizeof ip);
         four = four_before;
         six = six_before;
-        ip = told = ip_before;
+        ip = reported = ip_before;
         CHECK(row.text, read_v4(row.text, &four) == row.v4);
         CHECK(row.text, read_v6(row.text, &six) == row.v6);
         CHECK(row.text, read_ip(row.text, &ip) == (row.canonical != NULL ? YES : ADDR));
-        CHECK(row.text, read_with_cause(row.text, &told) == (row.canonical != NULL ? YES : row.v4 == ADDR ? row.v6 : row.v4));
-        CHECK(row.text, memcmp(&told, &ip, sizeof ip) == 0);
+        CHECK(row.text, read_with_cause(row.text, &reported) == (row.canonical != NULL ? YES : row.v4 == ADDR ? row.v6 : row.v4));
+        CHECK(row.text, memcmp(&reported, &ip, sizeof ip) == 0);
         char buffer[IPNETWORK_V6_TEXT];
         size_t length = 0;
         if (row.v4 == YES) {
@@ -215,16 +215,16 @@ static void buffers(void) {
             char *buffer = malloc(room);
             if (room != 0)
                 memset(buffer, 0xa5, room);
-            size_t told = 1000;
+            size_t reported = 1000;
             ipnetwork_fault fault;
             if (i < 3) {
                 ipnetwork_v4 network = v4(text);
-                fault = ipnetwork_v4_canonical(&network, somewhere(buffer, room), room, &told);
+                fault = ipnetwork_v4_canonical(&network, somewhere(buffer, room), room, &reported);
             } else {
                 ipnetwork_v6 network = v6(text);
-                fault = ipnetwork_v6_canonical(&network, somewhere(buffer, room), room, &told);
+                fault = ipnetwork_v6_canonical(&network, somewhere(buffer, room), room, &reported);
             }
-            CHECK(text, told == wanted);
+            CHECK(text, reported == wanted);
             CHECK(text, fault == (room > wanted ? YES : IPNETWORK_SHORT_BUFFER));
             size_t written = room > wanted ? wanted + 1 : 0;
             CHECK(text, written == 0 || memcmp(buffer, text, written) == 0);
@@ -343,14 +343,14 @@ static void past_the_width(void) {
     ipnetwork_v6 six = v6("2001:db8::1/64"), good_six = six;
     uint8_t octets[17] = {0}, answer = 77;
     char buffer[IPNETWORK_V6_TEXT];
-    size_t told = 77;
+    size_t reported = 77;
     uint64_t size = 77;
     int32_t order = 77;
     memset(buffer, 0xa5, sizeof buffer);
     for (unsigned prefix = 33; prefix <= 255; prefix++) {
         four.prefix = (uint8_t)prefix;
         ipnetwork_ip ip = {4, four, good_six};
-        CHECK(row, ipnetwork_v4_canonical(&four, buffer, sizeof buffer, &told) == PREF);
+        CHECK(row, ipnetwork_v4_canonical(&four, buffer, sizeof buffer, &reported) == PREF);
         CHECK(row, ipnetwork_v4_contains(&four, good_four.address, &answer) == PREF);
         CHECK(row, ipnetwork_v4_network(&four, octets) == PREF);
         CHECK(row, ipnetwork_v4_broadcast(&four, octets) == PREF);
@@ -371,7 +371,7 @@ static void past_the_width(void) {
     for (unsigned prefix = 129; prefix <= 255; prefix++) {
         six.prefix = (uint8_t)prefix;
         ipnetwork_ip ip = {6, good_four, six};
-        CHECK(row, ipnetwork_v6_canonical(&six, buffer, sizeof buffer, &told) == PREF);
+        CHECK(row, ipnetwork_v6_canonical(&six, buffer, sizeof buffer, &reported) == PREF);
         CHECK(row, ipnetwork_v6_contains(&six, good_six.address, &answer) == PREF);
         CHECK(row, ipnetwork_v6_network(&six, octets) == PREF);
         CHECK(row, ipnetwork_v6_broadcast(&six, octets) == PREF);
@@ -386,7 +386,7 @@ static void past_the_width(void) {
         CHECK(row, ipnetwork_v6_compare(&good_six, &six, &order) == PREF);
         CHECK(row, ipnetwork_contains(&ip, good_six.address, 16, &answer) == PREF);
     }
-    CHECK(row, answer == 77 && told == 77 && size == 77 && order == 77 && is_blank(octets, sizeof octets));
+    CHECK(row, answer == 77 && reported == 77 && size == 77 && order == 77 && is_blank(octets, sizeof octets));
     for (size_t at = 0; at < sizeof buffer; at++)
         CHECK(row, (uint8_t)buffer[at] == 0xa5);
 }
@@ -464,7 +464,7 @@ static uint8_t in_sixes(const ipnetwork_v6 *networks, size_t count, const uint8_
  * size. */
 static void aggregates(void) {
     for (size_t round = 0; round < 4000; round++) {
-        size_t count = round % 9, told[2] = {77, 77};
+        size_t count = round % 9, reported[2] = {77, 77};
         ipnetwork_v4 *four = malloc(count * sizeof *four), *given_four = malloc(count * sizeof *four);
         ipnetwork_v6 *six = malloc(count * sizeof *six), *given_six = malloc(count * sizeof *six);
         ipnetwork_v4 base_four = v4("192.0.2.0");
@@ -481,17 +481,17 @@ static void aggregates(void) {
             memcpy(given_four, four, count * sizeof *four);
             memcpy(given_six, six, count * sizeof *six);
         }
-        CHECK("aggregate", ipnetwork_v4_aggregate(count == 0 ? NULL : four, count, &told[0]) == YES);
-        CHECK("aggregate", ipnetwork_v6_aggregate(count == 0 ? NULL : six, count, &told[1]) == YES);
-        CHECK("aggregate", told[0] <= count && told[1] == told[0]);
+        CHECK("aggregate", ipnetwork_v4_aggregate(count == 0 ? NULL : four, count, &reported[0]) == YES);
+        CHECK("aggregate", ipnetwork_v6_aggregate(count == 0 ? NULL : six, count, &reported[1]) == YES);
+        CHECK("aggregate", reported[0] <= count && reported[1] == reported[0]);
         for (unsigned host = 0; host < 256; host++) {
             base_four.address[3] = base_six.address[15] = (uint8_t)host;
             uint8_t was = in_fours(given_four, count, base_four.address);
-            CHECK("list", in_fours(four, told[0], base_four.address) == was);
-            CHECK("list", in_sixes(six, told[1], base_six.address) == was);
+            CHECK("list", in_fours(four, reported[0], base_four.address) == was);
+            CHECK("list", in_sixes(six, reported[1], base_six.address) == was);
         }
         unsigned next = 0, width = 0;
-        for (size_t i = 0; i < told[0]; i++) {
+        for (size_t i = 0; i < reported[0]; i++) {
             unsigned low = four[i].address[3], bits = 32u - four[i].prefix;
             CHECK("block", bits < 9 && (low & ((1u << bits) - 1)) == 0 && low >= next);
             CHECK("halves", !(i > 0 && low == next && bits == width && (low >> bits & 1) == 1));
@@ -505,9 +505,9 @@ static void aggregates(void) {
             six[bad].prefix = 129;
             memcpy(given_four, four, count * sizeof *four);
             memcpy(given_six, six, count * sizeof *six);
-            told[0] = told[1] = 77;
-            CHECK("past", ipnetwork_v4_aggregate(four, count, &told[0]) == PREF && told[0] == 77);
-            CHECK("past", ipnetwork_v6_aggregate(six, count, &told[1]) == PREF && told[1] == 77);
+            reported[0] = reported[1] = 77;
+            CHECK("past", ipnetwork_v4_aggregate(four, count, &reported[0]) == PREF && reported[0] == 77);
+            CHECK("past", ipnetwork_v6_aggregate(six, count, &reported[1]) == PREF && reported[1] == 77);
             CHECK("past", memcmp(four, given_four, count * sizeof *four) == 0);
             CHECK("past", memcmp(six, given_six, count * sizeof *six) == 0);
         }
@@ -517,15 +517,15 @@ static void aggregates(void) {
         free(given_six);
     }
     ipnetwork_v4 all[3] = {v4("128.0.0.0/1"), v4("10.0.0.0/8"), v4("0.0.0.0/1")};
-    size_t told = 77;
-    CHECK("all", ipnetwork_v4_aggregate(all, 3, &told) == YES && told == 1 && all[0].prefix == 0);
+    size_t reported = 77;
+    CHECK("all", ipnetwork_v4_aggregate(all, 3, &reported) == YES && reported == 1 && all[0].prefix == 0);
     CHECK("all", is_blank(all[0].address, 4) && all[1].prefix <= 32 && all[2].prefix <= 32);
 }
 
 /* The blocks within 256 addresses of those for which has[] is true: the fewest possible, in ascending order. */
 static void fewest(const char *row, const ipnetwork_v4 *fours, const ipnetwork_v6 *sixes, size_t count,
                    const uint8_t has[256]) {
-    uint8_t told[256] = {0};
+    uint8_t reported[256] = {0};
     unsigned next = 0, width = 0;
     for (size_t i = 0; i < count; i++) {
         unsigned low = fours[i].address[3], bits = 32u - fours[i].prefix;
@@ -535,9 +535,9 @@ static void fewest(const char *row, const ipnetwork_v4 *fours, const ipnetwork_v
         CHECK(row, memcmp(fours[i].address, "\xc0\0\2", 3) == 0 && memcmp(sixes[i].address, "\x20\1\x0d\xb8", 4) == 0);
         next = low + (1u << bits);
         width = bits;
-        memset(told + low, 1, next - low);
+        memset(reported + low, 1, next - low);
     }
-    CHECK(row, memcmp(told, has, 256) == 0);
+    CHECK(row, memcmp(reported, has, 256) == 0);
 }
 
 /* Random sets within 256 addresses, searched for each of these addresses, and compared with a table of one byte for
@@ -643,24 +643,24 @@ static void leave_set(struct within_256 *set) {
  * of exactly its size. */
 static void operate(size_t which, const struct within_256 *a, const struct within_256 *b) {
     uint8_t has[256];
-    size_t told = 77, again = 77;
+    size_t reported = 77, again = 77;
     for (unsigned low = 0; low < 256; low++)
         has[low] = which == 0 ? a->has[low] || b->has[low] : which == 1 ? a->has[low] && b->has[low] : a->has[low] && !b->has[low];
-    ipnetwork_fault four = operations_v4[which](a->blocks, a->count, b->blocks, b->count, NULL, 0, &told);
+    ipnetwork_fault four = operations_v4[which](a->blocks, a->count, b->blocks, b->count, NULL, 0, &reported);
     ipnetwork_fault six = operations_v6[which](a->blocks_six, a->count, b->blocks_six, b->count, NULL, 0, &again);
-    CHECK("operation", four == (told == 0 ? YES : IPNETWORK_SHORT_BUFFER) && six == four && again == told);
-    CHECK("operation", which == 2 || told <= a->count + b->count);
-    size_t blocks = told;
+    CHECK("operation", four == (reported == 0 ? YES : IPNETWORK_SHORT_BUFFER) && six == four && again == reported);
+    CHECK("operation", which == 2 || reported <= a->count + b->count);
+    size_t blocks = reported;
     ipnetwork_v4 *made = edge(blocks * sizeof *made);
     ipnetwork_v6 *made_six = edge(blocks * sizeof *made_six);
     if (blocks != 0) {
         made[0].prefix = made_six[0].prefix = 77;
-        told = again = 77;
-        CHECK("operation", operations_v4[which](a->blocks, a->count, b->blocks, b->count, made, blocks - 1, &told) == IPNETWORK_SHORT_BUFFER);
+        reported = again = 77;
+        CHECK("operation", operations_v4[which](a->blocks, a->count, b->blocks, b->count, made, blocks - 1, &reported) == IPNETWORK_SHORT_BUFFER);
         CHECK("operation", operations_v6[which](a->blocks_six, a->count, b->blocks_six, b->count, made_six, blocks - 1, &again) == IPNETWORK_SHORT_BUFFER);
-        CHECK("operation", told == blocks && again == blocks && made[0].prefix == 77 && made_six[0].prefix == 77);
+        CHECK("operation", reported == blocks && again == blocks && made[0].prefix == 77 && made_six[0].prefix == 77);
     }
-    CHECK("operation", operations_v4[which](a->blocks, a->count, b->blocks, b->count, made, blocks, &told) == YES && told == blocks);
+    CHECK("operation", operations_v4[which](a->blocks, a->count, b->blocks, b->count, made, blocks, &reported) == YES && reported == blocks);
     CHECK("operation", operations_v6[which](a->blocks_six, a->count, b->blocks_six, b->count, made_six, blocks, &again) == YES && again == blocks);
     fewest("operation", made, made_six, blocks, has);
     leave_edge(made, blocks * sizeof *made);
@@ -672,13 +672,13 @@ static void operate(size_t which, const struct within_256 *a, const struct withi
 static void refused_operands(ipnetwork_fault wanted, const ipnetwork_v4 *bad, const ipnetwork_v6 *bad_six, size_t count) {
     ipnetwork_v4 all = v4("0.0.0.0/0"), made = {{77}, 77};
     ipnetwork_v6 all_six = v6("::/0"), made_six = {{77}, 77};
-    size_t told = 77;
+    size_t reported = 77;
     for (size_t which = 0; which < 3; which++) {
-        CHECK("no set", operations_v4[which](bad, count, &all, 1, &made, 1, &told) == wanted);
-        CHECK("no set", operations_v4[which](&all, 1, bad, count, &made, 1, &told) == wanted);
-        CHECK("no set", operations_v6[which](bad_six, count, &all_six, 1, &made_six, 1, &told) == wanted);
-        CHECK("no set", operations_v6[which](&all_six, 1, bad_six, count, &made_six, 1, &told) == wanted);
-        CHECK("no set", told == 77 && made.prefix == 77 && made_six.prefix == 77);
+        CHECK("no set", operations_v4[which](bad, count, &all, 1, &made, 1, &reported) == wanted);
+        CHECK("no set", operations_v4[which](&all, 1, bad, count, &made, 1, &reported) == wanted);
+        CHECK("no set", operations_v6[which](bad_six, count, &all_six, 1, &made_six, 1, &reported) == wanted);
+        CHECK("no set", operations_v6[which](&all_six, 1, bad_six, count, &made_six, 1, &reported) == wanted);
+        CHECK("no set", reported == 77 && made.prefix == 77 && made_six.prefix == 77);
     }
     uint32_t index[2] = {77, 77};
     CHECK("no set", ipnetwork_v4_index_make(bad, count, index, 2) == wanted);
@@ -701,13 +701,13 @@ static void operations(void) {
     ipnetwork_v4 all = v4("0.0.0.0/0"), ends[2] = {v4("0.0.0.0"), v4("255.255.255.255")}, made[64];
     ipnetwork_v6 all_six = v6("::/0"), made_six[256];
     ipnetwork_v6 ends_six[2] = {v6("::"), v6("ffff:ffff:ffff:ffff:ffff:ffff:ffff:ffff")};
-    size_t told = 77;
-    CHECK("all", ipnetwork_v4_difference(&all, 1, ends, 2, made, 64, &told) == YES && told == 62);
-    CHECK("all", ipnetwork_v4_union(made, told, ends, 2, made + 63, 1, &told) == YES && told == 1 && made[63].prefix == 0);
-    CHECK("all", ipnetwork_v6_difference(&all_six, 1, ends_six, 2, made_six, 256, &told) == YES && told == 254);
-    CHECK("all", ipnetwork_v6_union(made_six, told, ends_six, 2, made_six + 255, 1, &told) == YES && told == 1 && made_six[255].prefix == 0);
-    CHECK("all", ipnetwork_v4_intersection(&all, 1, &all, 1, made, 64, &told) == YES && told == 1 && made[0].prefix == 0);
-    CHECK("all", ipnetwork_v6_intersection(&all_six, 1, &all_six, 1, made_six, 256, &told) == YES && told == 1 && made_six[0].prefix == 0);
+    size_t reported = 77;
+    CHECK("all", ipnetwork_v4_difference(&all, 1, ends, 2, made, 64, &reported) == YES && reported == 62);
+    CHECK("all", ipnetwork_v4_union(made, reported, ends, 2, made + 63, 1, &reported) == YES && reported == 1 && made[63].prefix == 0);
+    CHECK("all", ipnetwork_v6_difference(&all_six, 1, ends_six, 2, made_six, 256, &reported) == YES && reported == 254);
+    CHECK("all", ipnetwork_v6_union(made_six, reported, ends_six, 2, made_six + 255, 1, &reported) == YES && reported == 1 && made_six[255].prefix == 0);
+    CHECK("all", ipnetwork_v4_intersection(&all, 1, &all, 1, made, 64, &reported) == YES && reported == 1 && made[0].prefix == 0);
+    CHECK("all", ipnetwork_v6_intersection(&all_six, 1, &all_six, 1, made_six, 256, &reported) == YES && reported == 1 && made_six[0].prefix == 0);
     ipnetwork_v4 halves[2] = {v4("10.0.0.0/9"), v4("10.128.0.0/9")}, turned[2] = {v4("10.0.1.0/24"), v4("10.0.0.0/25")};
     ipnetwork_v6 halves_six[2] = {v6("2001:db8::/33"), v6("2001:db8:8000::/33")}, turned_six[2] = {v6("2001:db9::/32"), v6("2001:db8::/33")};
     ipnetwork_v4 within[2] = {v4("10.0.0.0/8"), v4("10.1.0.0/16")}, host = v4("10.0.0.1/8"), past = v4("10.0.0.0/8");
@@ -757,9 +757,9 @@ static void tables(void) {
                 if (has == 1 && (int)four[i].prefix > longest) longest = four[i].prefix;
             }
             size_t index = 77, again = 77;
-            ipnetwork_fault told = ipnetwork_v4_index_find(four, count, NULL, 0, address, &index);
-            CHECK("table", told == (longest < 0 ? IPNETWORK_NO_MEMBER : YES));
-            CHECK("table", ipnetwork_v6_index_find(six, count, NULL, 0, address_six, &again) == told);
+            ipnetwork_fault reported = ipnetwork_v4_index_find(four, count, NULL, 0, address, &index);
+            CHECK("table", reported == (longest < 0 ? IPNETWORK_NO_MEMBER : YES));
+            CHECK("table", ipnetwork_v6_index_find(six, count, NULL, 0, address_six, &again) == reported);
             if (longest < 0) {
                 CHECK("table", index == 77 && again == 77);
                 continue;
@@ -784,10 +784,10 @@ static void tables(void) {
     /* After a block without the address, the search goes on and reaches the struct; after one with it, it does not. */
     ipnetwork_v4 table[2] = {past, v4("10.1.0.0/16")};
     ipnetwork_v6 table_six[2] = {past_six, v6("1::/16")};
-    const uint8_t beside[4] = {10, 2, 0, 1}, inside[4] = {10, 1, 0, 1};
-    const uint8_t beside_six[16] = {0, 2}, inside_six[16] = {0, 1};
-    CHECK("past", ipnetwork_v4_index_find(table, 2, NULL, 0, beside, &index) == PREF && index == 77);
-    CHECK("past", ipnetwork_v6_index_find(table_six, 2, NULL, 0, beside_six, &index) == PREF && index == 77);
+    const uint8_t outside[4] = {10, 2, 0, 1}, inside[4] = {10, 1, 0, 1};
+    const uint8_t outside_six[16] = {0, 2}, inside_six[16] = {0, 1};
+    CHECK("past", ipnetwork_v4_index_find(table, 2, NULL, 0, outside, &index) == PREF && index == 77);
+    CHECK("past", ipnetwork_v6_index_find(table_six, 2, NULL, 0, outside_six, &index) == PREF && index == 77);
     CHECK("past", ipnetwork_v4_index_find(table, 2, NULL, 0, inside, &index) == YES && index == 1);
     index = 77;
     CHECK("past", ipnetwork_v6_index_find(table_six, 2, NULL, 0, inside_six, &index) == YES && index == 1);
@@ -890,11 +890,11 @@ static void tables_made(void) {
     /* A row whose search reaches a prefix length greater than the width has that fault, and does not stop the
      * others. */
     ipnetwork_v4 bad[2] = {v4("10.0.0.0/8"), v4("192.0.2.0/24")};
-    uint8_t asked[3][4] = {{10, 0, 0, 1}, {192, 0, 2, 1}, {9, 0, 0, 1}}, told[3] = {77, 77, 77};
+    uint8_t asked[3][4] = {{10, 0, 0, 1}, {192, 0, 2, 1}, {9, 0, 0, 1}}, reported[3] = {77, 77, 77};
     size_t found[3] = {77, 77, 77};
     bad[1].prefix = 33;
-    CHECK("past", ipnetwork_v4_index_find_column(bad, 2, NULL, 0, asked[0], 3, found, 3, told, 3) == YES);
-    CHECK("past", told[0] == YES && told[1] == PREF && told[2] == IPNETWORK_NO_MEMBER && found[0] == 0 && found[1] == 77 && found[2] == 77);
+    CHECK("past", ipnetwork_v4_index_find_column(bad, 2, NULL, 0, asked[0], 3, found, 3, reported, 3) == YES);
+    CHECK("past", reported[0] == YES && reported[1] == PREF && reported[2] == IPNETWORK_NO_MEMBER && found[0] == 0 && found[1] == 77 && found[2] == 77);
 }
 
 /* What an index must hold, counted from numbers in ascending order in the simplest way. The span is less than 2^32. */
@@ -956,7 +956,7 @@ static void indexes(void) {
     memset(addresses[257], 255, 4);
     memset(addresses_six[257], 255, 16);
     for (size_t round = 0; round < 400; round++) {
-        size_t count = round % 21, length = number() % 41, told = count, told_six = count;
+        size_t count = round % 21, length = number() % 41, reported = count, reported_six = count;
         ipnetwork_v4 *four = edge(count * sizeof *four), *fours = edge(count * sizeof *fours);
         ipnetwork_v6 *six = edge(count * sizeof *six), *sixes = edge(count * sizeof *sixes);
         size_t places[20];
@@ -970,35 +970,35 @@ static void indexes(void) {
         if (round % 2 == 0) {
             memcpy(fours, four, count * sizeof *four);
             memcpy(sixes, six, count * sizeof *six);
-            CHECK("index", ipnetwork_v4_aggregate(fours, count, &told) == YES && ipnetwork_v6_aggregate(sixes, count, &told_six) == YES);
+            CHECK("index", ipnetwork_v4_aggregate(fours, count, &reported) == YES && ipnetwork_v6_aggregate(sixes, count, &reported_six) == YES);
         } else {
             CHECK("index", ipnetwork_v4_table_make(four, count, fours, count, places, count) == YES);
             CHECK("index", ipnetwork_v6_table_make(six, count, sixes, count, places, count) == YES);
         }
-        for (size_t i = 0; i < told; i++)
+        for (size_t i = 0; i < reported; i++)
             starts[i] = (uint32_t)fours[i].address[0] << 24 | (uint32_t)fours[i].address[1] << 16 | (uint32_t)fours[i].address[2] << 8 | fours[i].address[3];
-        plain_index(starts, told, wanted, length);
+        plain_index(starts, reported, wanted, length);
         if (round % 2 == 0) {
-            CHECK("index", ipnetwork_v4_index_make(fours, told, index, length) == YES);
-            CHECK("index", ipnetwork_v6_index_make(sixes, told_six, index_six, length) == YES);
+            CHECK("index", ipnetwork_v4_index_make(fours, reported, index, length) == YES);
+            CHECK("index", ipnetwork_v6_index_make(sixes, reported_six, index_six, length) == YES);
             CHECK("index", memcmp(index, wanted, length * sizeof *index) == 0);
         }
-        CHECK("index", ipnetwork_v4_table_index_make(fours, told, index, length) == YES);
-        CHECK("index", ipnetwork_v6_table_index_make(sixes, told_six, index_six, length) == YES);
+        CHECK("index", ipnetwork_v4_table_index_make(fours, reported, index, length) == YES);
+        CHECK("index", ipnetwork_v6_table_index_make(sixes, reported_six, index_six, length) == YES);
         CHECK("index", memcmp(index, wanted, length * sizeof *index) == 0);
-        asked_by(fours, sixes, told, index, length, addresses, addresses_six, 258);
-        if (told_six == told) asked_by(fours, sixes, told, index_six, length, addresses, addresses_six, 258);
-        for (size_t i = 0; i < told_six; i++)
+        asked_by(fours, sixes, reported, index, length, addresses, addresses_six, 258);
+        if (reported_six == reported) asked_by(fours, sixes, reported, index_six, length, addresses, addresses_six, 258);
+        for (size_t i = 0; i < reported_six; i++)
             starts[i] = (uint32_t)sixes[i].address[14] << 8 | sixes[i].address[15];
-        plain_index(starts, told_six, wanted, length);
+        plain_index(starts, reported_six, wanted, length);
         CHECK("index", memcmp(index_six, wanted, length * sizeof *index) == 0);
         for (size_t i = 0; i < length; i++) index[i] = number() % 4 == 0 ? number() * 65537u : number() % 24;
-        if (told_six == told) asked_by(fours, sixes, told, index, length, addresses, addresses_six, 258);
-        if (told > 0 && told_six == told) {
-            fours[round % told].prefix = 33;
-            sixes[round % told].prefix = 129;
-            asked_by(fours, sixes, told, index_six, length, addresses, addresses_six, 258);
-            asked_by(fours, sixes, told, index, length, addresses, addresses_six, 258);
+        if (reported_six == reported) asked_by(fours, sixes, reported, index, length, addresses, addresses_six, 258);
+        if (reported > 0 && reported_six == reported) {
+            fours[round % reported].prefix = 33;
+            sixes[round % reported].prefix = 129;
+            asked_by(fours, sixes, reported, index_six, length, addresses, addresses_six, 258);
+            asked_by(fours, sixes, reported, index, length, addresses, addresses_six, 258);
         }
         leave_edge(four, count * sizeof *four);
         leave_edge(fours, count * sizeof *fours);
@@ -1095,30 +1095,30 @@ static void nothing_is_written(const struct ranges_of_table *of, const uint8_t *
 }
 
 /* The same ranges with numbers: one number more than blocks, the last of which belongs to no block. */
-static void numbers_beside(const struct ranges_of_table *of, const uint8_t *blocks, size_t count) {
-    size_t room = 2 * count, stride = of->width + 1, told = 77;
-    size_t *numbers = edge((count + 1) * sizeof *numbers), *beside = edge((room + 1) * sizeof *beside);
+static void numbers_of_ranges(const struct ranges_of_table *of, const uint8_t *blocks, size_t count) {
+    size_t room = 2 * count, stride = of->width + 1, reported = 77;
+    size_t *numbers = edge((count + 1) * sizeof *numbers), *range_numbers = edge((room + 1) * sizeof *range_numbers);
     uint8_t *structs = edge((room + 1) * stride);
     for (size_t i = 0; i <= count; i++) numbers[i] = 1000 + 3 * i;
-    memset(beside, 77, (room + 1) * sizeof *beside);
+    memset(range_numbers, 77, (room + 1) * sizeof *range_numbers);
     memset(structs, 77, (room + 1) * stride);
     ipnetwork_fault made = of->width == 4
-        ? ipnetwork_v4_ranges_make_numbered((const ipnetwork_v4 *)blocks, count, numbers, count + 1, of->index, of->index_length, (ipnetwork_v4 *)structs, room, beside, room + 1, &told)
-        : ipnetwork_v6_ranges_make_numbered((const ipnetwork_v6 *)blocks, count, numbers, count + 1, of->index, of->index_length, (ipnetwork_v6 *)structs, room, beside, room + 1, &told);
-    CHECK("numbered", made == YES && told == of->count && memcmp(structs, of->structs, told * stride) == 0);
-    for (size_t i = 0; i < told; i++)
-        CHECK("numbered", beside[i] == (of->places[i] == IPNETWORK_NO_PLACE ? IPNETWORK_NO_PLACE : 1000 + 3 * of->places[i]));
-    for (size_t i = told * stride; i < (room + 1) * stride; i++) CHECK("numbered", structs[i] == 77);
-    for (size_t i = told * sizeof *beside; i < (room + 1) * sizeof *beside; i++) CHECK("numbered", ((uint8_t *)beside)[i] == 77);
+        ? ipnetwork_v4_ranges_make_numbered((const ipnetwork_v4 *)blocks, count, numbers, count + 1, of->index, of->index_length, (ipnetwork_v4 *)structs, room, range_numbers, room + 1, &reported)
+        : ipnetwork_v6_ranges_make_numbered((const ipnetwork_v6 *)blocks, count, numbers, count + 1, of->index, of->index_length, (ipnetwork_v6 *)structs, room, range_numbers, room + 1, &reported);
+    CHECK("numbered", made == YES && reported == of->count && memcmp(structs, of->structs, reported * stride) == 0);
+    for (size_t i = 0; i < reported; i++)
+        CHECK("numbered", range_numbers[i] == (of->places[i] == IPNETWORK_NO_PLACE ? IPNETWORK_NO_PLACE : 1000 + 3 * of->places[i]));
+    for (size_t i = reported * stride; i < (room + 1) * stride; i++) CHECK("numbered", structs[i] == 77);
+    for (size_t i = reported * sizeof *range_numbers; i < (room + 1) * sizeof *range_numbers; i++) CHECK("numbered", ((uint8_t *)range_numbers)[i] == 77);
     if (count > 0) {
-        size_t kept = told = 77;
-        CHECK("fewer numbers", (of->width == 4 ? ipnetwork_v4_ranges_make_numbered((const ipnetwork_v4 *)blocks, count, numbers, count - 1, of->index, of->index_length, (ipnetwork_v4 *)structs, room, beside, room, &told)
-                                               : ipnetwork_v6_ranges_make_numbered((const ipnetwork_v6 *)blocks, count, numbers, count - 1, of->index, of->index_length, (ipnetwork_v6 *)structs, room, beside, room, &told)) == IPNETWORK_SHORT_BUFFER && told == kept);
-        CHECK("room", (of->width == 4 ? ipnetwork_v4_ranges_make_numbered((const ipnetwork_v4 *)blocks, count, numbers, count, of->index, of->index_length, (ipnetwork_v4 *)structs, room - 1, beside, room, &told)
-                                      : ipnetwork_v6_ranges_make_numbered((const ipnetwork_v6 *)blocks, count, numbers, count, of->index, of->index_length, (ipnetwork_v6 *)structs, room, beside, room - 1, &told)) == IPNETWORK_SHORT_BUFFER && told == kept);
+        size_t kept = reported = 77;
+        CHECK("fewer numbers", (of->width == 4 ? ipnetwork_v4_ranges_make_numbered((const ipnetwork_v4 *)blocks, count, numbers, count - 1, of->index, of->index_length, (ipnetwork_v4 *)structs, room, range_numbers, room, &reported)
+                                               : ipnetwork_v6_ranges_make_numbered((const ipnetwork_v6 *)blocks, count, numbers, count - 1, of->index, of->index_length, (ipnetwork_v6 *)structs, room, range_numbers, room, &reported)) == IPNETWORK_SHORT_BUFFER && reported == kept);
+        CHECK("room", (of->width == 4 ? ipnetwork_v4_ranges_make_numbered((const ipnetwork_v4 *)blocks, count, numbers, count, of->index, of->index_length, (ipnetwork_v4 *)structs, room - 1, range_numbers, room, &reported)
+                                      : ipnetwork_v6_ranges_make_numbered((const ipnetwork_v6 *)blocks, count, numbers, count, of->index, of->index_length, (ipnetwork_v6 *)structs, room, range_numbers, room - 1, &reported)) == IPNETWORK_SHORT_BUFFER && reported == kept);
     }
     leave_edge(numbers, (count + 1) * sizeof *numbers);
-    leave_edge(beside, (room + 1) * sizeof *beside);
+    leave_edge(range_numbers, (room + 1) * sizeof *range_numbers);
     leave_edge(structs, (room + 1) * stride);
 }
 
@@ -1178,12 +1178,12 @@ static void asked_ranges(const uint8_t *blocks, size_t count, size_t width, cons
         CHECK("fewer places", column_by(&of, of.count - 1, last, 1, &place, 1, faults, 1) == YES && faults[0] == IPNETWORK_NO_MEMBER);
     }
     if (count > 0) {
-        size_t told = 77;
-        CHECK("room", (width == 4 ? ipnetwork_v4_ranges_make((const ipnetwork_v4 *)blocks, count, NULL, 0, (ipnetwork_v4 *)of.structs, 2 * count - 1, of.places, room, &told)
-                                  : ipnetwork_v6_ranges_make((const ipnetwork_v6 *)blocks, count, NULL, 0, (ipnetwork_v6 *)of.structs, room, of.places, 2 * count - 1, &told)) == IPNETWORK_SHORT_BUFFER && told == 77);
+        size_t reported = 77;
+        CHECK("room", (width == 4 ? ipnetwork_v4_ranges_make((const ipnetwork_v4 *)blocks, count, NULL, 0, (ipnetwork_v4 *)of.structs, 2 * count - 1, of.places, room, &reported)
+                                  : ipnetwork_v6_ranges_make((const ipnetwork_v6 *)blocks, count, NULL, 0, (ipnetwork_v6 *)of.structs, room, of.places, 2 * count - 1, &reported)) == IPNETWORK_SHORT_BUFFER && reported == 77);
         CHECK("room", column_by(&of, of.count, addresses, 2, found, 1, faults, 2) == IPNETWORK_SHORT_BUFFER && column_by(&of, of.count, addresses, 2, found, 2, faults, 1) == IPNETWORK_SHORT_BUFFER);
     }
-    numbers_beside(&of, blocks, count);
+    numbers_of_ranges(&of, blocks, count);
     nothing_is_written(&of, blocks, count, addresses, asked);
     leave_edge(of.structs, room * stride);
     leave_edge(of.places, room * sizeof *of.places);
@@ -1225,24 +1225,24 @@ static void table_ranges(void) {
         if (count > 0) {
             ipnetwork_v4 made[46];
             ipnetwork_v6 made_six[46];
-            size_t beside[46] = {77}, told = 77;
+            size_t range_numbers[46] = {77}, reported = 77;
             fours[round % count].prefix = 33;
             sixes[round % count].prefix = 129;
             memset(made, 77, sizeof made);
             memset(made_six, 77, sizeof made_six);
-            CHECK("past", ipnetwork_v4_ranges_make(fours, count, NULL, 0, made, 46, beside, 46, &told) == PREF && ipnetwork_v4_ranges_make(fours, count, NULL, 0, NULL, 0, NULL, 0, &told) == PREF);
-            CHECK("past", ipnetwork_v6_ranges_make(sixes, count, NULL, 0, made_six, 46, beside, 46, &told) == PREF && ipnetwork_v6_ranges_make(sixes, count, NULL, 0, NULL, 0, NULL, 0, &told) == PREF);
-            CHECK("past", told == 77 && beside[0] == 77 && made[0].prefix == 77 && made_six[0].prefix == 77);
+            CHECK("past", ipnetwork_v4_ranges_make(fours, count, NULL, 0, made, 46, range_numbers, 46, &reported) == PREF && ipnetwork_v4_ranges_make(fours, count, NULL, 0, NULL, 0, NULL, 0, &reported) == PREF);
+            CHECK("past", ipnetwork_v6_ranges_make(sixes, count, NULL, 0, made_six, 46, range_numbers, 46, &reported) == PREF && ipnetwork_v6_ranges_make(sixes, count, NULL, 0, NULL, 0, NULL, 0, &reported) == PREF);
+            CHECK("past", reported == 77 && range_numbers[0] == 77 && made[0].prefix == 77 && made_six[0].prefix == 77);
         }
         leave_edge(four, count * sizeof *four);
         leave_edge(fours, count * sizeof *fours);
         leave_edge(six, count * sizeof *six);
         leave_edge(sixes, count * sizeof *sixes);
     }
-    size_t told = 77, place = 77;
-    CHECK("NULL", ipnetwork_v4_ranges_make(NULL, 0, NULL, 0, NULL, 0, NULL, 0, &told) == YES && told == 0);
-    told = 77;
-    CHECK("NULL", ipnetwork_v6_ranges_make(NULL, 0, NULL, 0, NULL, 0, NULL, 0, &told) == YES && told == 0);
+    size_t reported = 77, place = 77;
+    CHECK("NULL", ipnetwork_v4_ranges_make(NULL, 0, NULL, 0, NULL, 0, NULL, 0, &reported) == YES && reported == 0);
+    reported = 77;
+    CHECK("NULL", ipnetwork_v6_ranges_make(NULL, 0, NULL, 0, NULL, 0, NULL, 0, &reported) == YES && reported == 0);
     CHECK("NULL", ipnetwork_v4_ranges_find(NULL, 0, NULL, 0, NULL, 0, addresses[0], &place) == IPNETWORK_NO_MEMBER && place == 77);
     CHECK("NULL", ipnetwork_v6_ranges_find(NULL, 0, NULL, 0, NULL, 0, addresses_six[0], &place) == IPNETWORK_NO_MEMBER && place == 77);
     CHECK("NULL", ipnetwork_v4_ranges_place(NULL, 0, NULL, 0, NULL, 0, addresses[0]).place == IPNETWORK_NO_PLACE);
@@ -1259,23 +1259,23 @@ static void ranges(void) {
             uint8_t six[2][16] = {{0x20, 1, 0x0d, 0xb8}, {0x20, 1, 0x0d, 0xb8}}, has[256] = {0};
             six[0][15] = (uint8_t)first;
             six[1][15] = (uint8_t)last;
-            size_t told = 77, again = 77, blocks;
+            size_t reported = 77, again = 77, blocks;
             if (last < first) {
-                CHECK("range", ipnetwork_v4_range_to_blocks(four[0], four[1], NULL, 0, &told) == IPNETWORK_NO_RANGE && told == 77);
+                CHECK("range", ipnetwork_v4_range_to_blocks(four[0], four[1], NULL, 0, &reported) == IPNETWORK_NO_RANGE && reported == 77);
                 CHECK("range", ipnetwork_v6_range_to_blocks(six[0], six[1], NULL, 0, &again) == IPNETWORK_NO_RANGE && again == 77);
                 continue;
             }
             memset(has + first, 1, last - first + 1);
-            CHECK("range", ipnetwork_v4_range_to_blocks(four[0], four[1], NULL, 0, &told) == IPNETWORK_SHORT_BUFFER);
-            CHECK("range", ipnetwork_v6_range_to_blocks(six[0], six[1], NULL, 0, &again) == IPNETWORK_SHORT_BUFFER && again == told);
-            blocks = told;
+            CHECK("range", ipnetwork_v4_range_to_blocks(four[0], four[1], NULL, 0, &reported) == IPNETWORK_SHORT_BUFFER);
+            CHECK("range", ipnetwork_v6_range_to_blocks(six[0], six[1], NULL, 0, &again) == IPNETWORK_SHORT_BUFFER && again == reported);
+            blocks = reported;
             ipnetwork_v4 *made = edge(blocks * sizeof *made);
             ipnetwork_v6 *made_six = edge(blocks * sizeof *made_six);
             made[0].prefix = made_six[0].prefix = 77;
-            CHECK("range", ipnetwork_v4_range_to_blocks(four[0], four[1], made, blocks - 1, &told) == IPNETWORK_SHORT_BUFFER);
+            CHECK("range", ipnetwork_v4_range_to_blocks(four[0], four[1], made, blocks - 1, &reported) == IPNETWORK_SHORT_BUFFER);
             CHECK("range", ipnetwork_v6_range_to_blocks(six[0], six[1], made_six, blocks - 1, &again) == IPNETWORK_SHORT_BUFFER);
-            CHECK("range", told == blocks && again == blocks && made[0].prefix == 77 && made_six[0].prefix == 77);
-            CHECK("range", ipnetwork_v4_range_to_blocks(four[0], four[1], made, blocks, &told) == YES && told == blocks);
+            CHECK("range", reported == blocks && again == blocks && made[0].prefix == 77 && made_six[0].prefix == 77);
+            CHECK("range", ipnetwork_v4_range_to_blocks(four[0], four[1], made, blocks, &reported) == YES && reported == blocks);
             CHECK("range", ipnetwork_v6_range_to_blocks(six[0], six[1], made_six, blocks, &again) == YES && again == blocks);
             fewest("range", made, made_six, blocks, has);
             leave_edge(made, blocks * sizeof *made);
@@ -1284,19 +1284,19 @@ static void ranges(void) {
     }
     uint8_t first[16] = {0}, last[16];
     memset(last, 255, 16);
-    size_t told = 77;
+    size_t reported = 77;
     ipnetwork_v4 four = {{77}, 77};
     ipnetwork_v6 six = {{77}, 77};
-    CHECK("all", ipnetwork_v4_range_to_blocks(first, last, &four, 1, &told) == YES && told == 1 && is_blank(&four, sizeof four));
-    CHECK("all", ipnetwork_v6_range_to_blocks(first, last, &six, 1, &told) == YES && told == 1 && is_blank(&six, sizeof six));
+    CHECK("all", ipnetwork_v4_range_to_blocks(first, last, &four, 1, &reported) == YES && reported == 1 && is_blank(&four, sizeof four));
+    CHECK("all", ipnetwork_v6_range_to_blocks(first, last, &six, 1, &reported) == YES && reported == 1 && is_blank(&six, sizeof six));
     first[3] = 1;
     last[3] = 254;
-    CHECK("longest", ipnetwork_v4_range_to_blocks(first, last, NULL, 0, &told) == IPNETWORK_SHORT_BUFFER && told == 62);
+    CHECK("longest", ipnetwork_v4_range_to_blocks(first, last, NULL, 0, &reported) == IPNETWORK_SHORT_BUFFER && reported == 62);
     first[3] = 0;
     last[3] = 255;
     first[15] = 1;
     last[15] = 254;
-    CHECK("longest", ipnetwork_v6_range_to_blocks(first, last, NULL, 0, &told) == IPNETWORK_SHORT_BUFFER && told == 254);
+    CHECK("longest", ipnetwork_v6_range_to_blocks(first, last, NULL, 0, &reported) == IPNETWORK_SHORT_BUFFER && reported == 254);
 }
 
 /* Blocks within a network by their number. */
@@ -1349,7 +1349,7 @@ static void columns_of_texts(void) {
         uint32_t at = 0, *offsets = malloc((count + 1) * sizeof *offsets);
         ipnetwork_v4 *fours = malloc(count * sizeof *fours);
         ipnetwork_v6 *sixes = malloc(count * sizeof *sixes);
-        ipnetwork_ip *ips = malloc(count * sizeof *ips), *told = malloc(count * sizeof *told);
+        ipnetwork_ip *ips = malloc(count * sizeof *ips), *reported = malloc(count * sizeof *reported);
         ipnetwork_address *addresses = malloc(count * sizeof *addresses);
         uint8_t *faults = malloc(5 * count);
         for (size_t i = 0; i < count; i++) {
@@ -1365,7 +1365,7 @@ static void columns_of_texts(void) {
         memset(fours, 0xa5, count * sizeof *fours);
         memset(sixes, 0xa5, count * sizeof *sixes);
         memset(ips, 0xa5, count * sizeof *ips);
-        memset(told, 0xa5, count * sizeof *told);
+        memset(reported, 0xa5, count * sizeof *reported);
         memset(addresses, 0xa5, count * sizeof *addresses);
         memset(faults, 77, 5 * count);
         CHECK("column", ipnetwork_v4_read_column(texts, at, offsets, count + 1, fours, count - 1, faults, count) == IPNETWORK_SHORT_BUFFER);
@@ -1374,18 +1374,18 @@ static void columns_of_texts(void) {
         uint32_t kept = offsets[shift];
         offsets[shift] = offsets[shift + 1] + 1;
         CHECK("column", ipnetwork_read_column(texts, at, offsets, count + 1, ips, count, faults, count) == IPNETWORK_NO_OFFSETS);
-        CHECK("column", ipnetwork_read_with_cause_column(texts, at, offsets, count + 1, told, count, faults, count) == IPNETWORK_NO_OFFSETS);
+        CHECK("column", ipnetwork_read_with_cause_column(texts, at, offsets, count + 1, reported, count, faults, count) == IPNETWORK_NO_OFFSETS);
         offsets[shift] = kept;
-        CHECK("column", ipnetwork_read_with_cause_column(texts, at, offsets, count + 1, told, count - 1, faults, count) == IPNETWORK_SHORT_BUFFER);
-        CHECK("column", ipnetwork_read_with_cause_column(texts, at, offsets, count + 1, told, count, faults, count - 1) == IPNETWORK_SHORT_BUFFER);
+        CHECK("column", ipnetwork_read_with_cause_column(texts, at, offsets, count + 1, reported, count - 1, faults, count) == IPNETWORK_SHORT_BUFFER);
+        CHECK("column", ipnetwork_read_with_cause_column(texts, at, offsets, count + 1, reported, count, faults, count - 1) == IPNETWORK_SHORT_BUFFER);
         for (size_t i = 0; i < 5 * count; i++)
             CHECK("written", faults[i] == 77);
         CHECK("column", ipnetwork_v4_read_column(texts, at, offsets, count + 1, fours, count, faults, count) == YES);
         CHECK("column", ipnetwork_v6_read_column(texts, at, offsets, count + 1, sixes, count, faults + count, count) == YES);
         CHECK("column", ipnetwork_read_column(texts, at, offsets, count + 1, ips, count, faults + 2 * count, count) == YES);
         CHECK("column", ipnetwork_address_read_column(texts, at, offsets, count + 1, addresses, count, faults + 3 * count, count) == YES);
-        CHECK("column", ipnetwork_read_with_cause_column(texts, at, offsets, count + 1, told, count, faults + 4 * count, count) == YES);
-        CHECK("column", memcmp(told, ips, count * sizeof *ips) == 0);
+        CHECK("column", ipnetwork_read_with_cause_column(texts, at, offsets, count + 1, reported, count, faults + 4 * count, count) == YES);
+        CHECK("column", memcmp(reported, ips, count * sizeof *ips) == 0);
         for (size_t i = 0; i < count; i++) {
             const char *text = rows[(i + shift) % count].text;
             ipnetwork_v4 four;
@@ -1407,7 +1407,7 @@ static void columns_of_texts(void) {
         free(fours);
         free(sixes);
         free(ips);
-        free(told);
+        free(reported);
         free(addresses);
         free(faults);
         free(texts);
@@ -1516,23 +1516,23 @@ static void questions_of_either(void) {
     };
     for (size_t i = 0; i < sizeof ends / sizeof *ends; i++) {
         ipnetwork_ip network;
-        ipnetwork_address told[3], read;
+        ipnetwork_address reported[3], read;
         const char *wanted[3] = {ends[i].low, ends[i].high, ends[i].mask};
         CHECK(ends[i].text, read_ip(ends[i].text, &network) == YES);
-        CHECK(ends[i].text, ipnetwork_network(&network, &told[0]) == YES);
-        CHECK(ends[i].text, ipnetwork_broadcast(&network, &told[1]) == YES);
-        CHECK(ends[i].text, ipnetwork_mask(&network, &told[2]) == YES);
+        CHECK(ends[i].text, ipnetwork_network(&network, &reported[0]) == YES);
+        CHECK(ends[i].text, ipnetwork_broadcast(&network, &reported[1]) == YES);
+        CHECK(ends[i].text, ipnetwork_mask(&network, &reported[2]) == YES);
         for (size_t k = 0; k < 3; k++) {
             char text[IPNETWORK_ADDRESS_TEXT];
             size_t length = strlen(wanted[k]), room;
             char *buffer = malloc(length + 1);
-            CHECK(wanted[k], ipnetwork_address_canonical(&told[k], text, sizeof text, &room) == YES);
+            CHECK(wanted[k], ipnetwork_address_canonical(&reported[k], text, sizeof text, &room) == YES);
             CHECK(wanted[k], strcmp(text, wanted[k]) == 0 && room == length);
-            CHECK(wanted[k], ipnetwork_address_canonical(&told[k], buffer, length + 1, &room) == YES);
+            CHECK(wanted[k], ipnetwork_address_canonical(&reported[k], buffer, length + 1, &room) == YES);
             CHECK(wanted[k], strcmp(buffer, wanted[k]) == 0);
-            CHECK(wanted[k], ipnetwork_address_canonical(&told[k], buffer, length, &room) == IPNETWORK_SHORT_BUFFER);
+            CHECK(wanted[k], ipnetwork_address_canonical(&reported[k], buffer, length, &room) == IPNETWORK_SHORT_BUFFER);
             CHECK(wanted[k], ipnetwork_address_read(wanted[k], length, &read) == YES);
-            CHECK(wanted[k], memcmp(&read, &told[k], sizeof read) == 0);
+            CHECK(wanted[k], memcmp(&read, &reported[k], sizeof read) == 0);
             CHECK(wanted[k], read.length == network.family / 6 * 12 + 4 && is_blank(read.octets + read.length, 16 - read.length));
             free(buffer);
         }
@@ -1596,11 +1596,11 @@ static void refused_of_either(void) {
     }
     for (unsigned count = 0; count <= 255; count++) {
         address.length = (uint8_t)count;
-        size_t told = 77;
+        size_t reported = 77;
         char printed[IPNETWORK_ADDRESS_TEXT] = {77};
         ipnetwork_fault wanted = count == 4 || count == 16 ? YES : IPNETWORK_NO_FAMILY;
-        CHECK("length", ipnetwork_address_canonical(&address, printed, sizeof printed, &told) == wanted);
-        CHECK("length", wanted == YES || (printed[0] == 77 && told == 77));
+        CHECK("length", ipnetwork_address_canonical(&address, printed, sizeof printed, &reported) == wanted);
+        CHECK("length", wanted == YES || (printed[0] == 77 && reported == 77));
     }
     static const char *const texts[] = {"", "10.0.0.0/8", "10.0.0", "10.0.0.256", "010.0.0.1", "::1%eth0", "[::1]", " ::1",
                                         "1.2.3.4.", ":::", "1:2:3:4:5:6:7:8:9"};
@@ -1648,30 +1648,30 @@ static void printed_columns(void) {
             starts[1][row + 1] = starts[1][row] + (uint32_t)lengths[1];
         }
         for (size_t which = 0; which < 2; which++) {
-            size_t whole = starts[which][rows], told = 77;
+            size_t whole = starts[which][rows], reported = 77;
             char *texts = edge(whole);
             uint32_t *offsets = edge((rows + 1) * sizeof *offsets);
 #define PRINTED(room, places)                                                                                              \
-    (which == 0 ? ipnetwork_v4_print_column(four, rows, texts, room, offsets, places, &told)                               \
-                : ipnetwork_v6_print_column(six, rows, texts, room, offsets, places, &told))
+    (which == 0 ? ipnetwork_v4_print_column(four, rows, texts, room, offsets, places, &reported)                               \
+                : ipnetwork_v6_print_column(six, rows, texts, room, offsets, places, &reported))
             offsets[0] = 77;
             if (whole != 0) {
                 texts[0] = 'x';
-                CHECK("one short", PRINTED(whole - 1, rows + 1) == IPNETWORK_SHORT_BUFFER && told == whole && texts[0] == 'x');
-                told = 77;
+                CHECK("one short", PRINTED(whole - 1, rows + 1) == IPNETWORK_SHORT_BUFFER && reported == whole && texts[0] == 'x');
+                reported = 77;
             }
-            CHECK("one short", PRINTED(whole, rows) == IPNETWORK_SHORT_BUFFER && told == whole && offsets[0] == 77);
-            told = 77;
-            CHECK("printed", PRINTED(whole, rows + 1) == YES && told == whole);
+            CHECK("one short", PRINTED(whole, rows) == IPNETWORK_SHORT_BUFFER && reported == whole && offsets[0] == 77);
+            reported = 77;
+            CHECK("printed", PRINTED(whole, rows + 1) == YES && reported == whole);
             CHECK("printed", memcmp(texts, wanted[which], whole) == 0);
             CHECK("printed", memcmp(offsets, starts[which], (rows + 1) * sizeof *offsets) == 0);
             if (rows != 0) {
                 uint8_t *prefix = which == 0 ? &four[rows / 2].prefix : &six[rows / 2].prefix;
                 *prefix = which == 0 ? 33 : 129;
-                told = 77;
+                reported = 77;
                 texts[0] = 'x';
                 offsets[0] = 77;
-                CHECK("past", PRINTED(whole, rows + 1) == PREF && told == 77 && texts[0] == 'x' && offsets[0] == 77);
+                CHECK("past", PRINTED(whole, rows + 1) == PREF && reported == 77 && texts[0] == 'x' && offsets[0] == 77);
             }
             leave_edge(texts, whole);
             leave_edge(offsets, (rows + 1) * sizeof *offsets);
@@ -1680,9 +1680,9 @@ static void printed_columns(void) {
         leave_edge(six, rows * sizeof *six);
     }
     uint32_t offset = 77;
-    size_t told = 77;
-    CHECK("NULL", ipnetwork_v4_print_column(NULL, 0, NULL, 0, &offset, 1, &told) == YES && told == 0 && offset == 0);
-    CHECK("NULL", ipnetwork_v6_print_column(NULL, 0, NULL, 0, NULL, 0, &told) == IPNETWORK_SHORT_BUFFER && told == 0);
+    size_t reported = 77;
+    CHECK("NULL", ipnetwork_v4_print_column(NULL, 0, NULL, 0, &offset, 1, &reported) == YES && reported == 0 && offset == 0);
+    CHECK("NULL", ipnetwork_v6_print_column(NULL, 0, NULL, 0, NULL, 0, &reported) == IPNETWORK_SHORT_BUFFER && reported == 0);
 }
 
 /* Columns of either family, of networks and of addresses: each text is that of the call for one, and the fault is that
@@ -1709,25 +1709,25 @@ static void printed_columns_of_either(void) {
             starts[1][row + 1] = starts[1][row] + (uint32_t)lengths[1];
         }
         for (size_t which = 0; which < 2; which++) {
-            size_t whole = starts[which][rows], told = 77;
+            size_t whole = starts[which][rows], reported = 77;
             char *texts = edge(whole);
             uint32_t *offsets = edge((rows + 1) * sizeof *offsets);
 #define PRINTED_OF_EITHER(room, places)                                                                                    \
-    (which == 0 ? ipnetwork_print_column(ips, rows, texts, room, offsets, places, &told)                                   \
-                : ipnetwork_address_print_column(addresses, rows, texts, room, offsets, places, &told))
+    (which == 0 ? ipnetwork_print_column(ips, rows, texts, room, offsets, places, &reported)                                   \
+                : ipnetwork_address_print_column(addresses, rows, texts, room, offsets, places, &reported))
             offsets[0] = 77;
-            CHECK("one short", PRINTED_OF_EITHER(whole, rows) == IPNETWORK_SHORT_BUFFER && told == whole && offsets[0] == 77);
-            told = 77;
-            CHECK("printed", PRINTED_OF_EITHER(whole, rows + 1) == YES && told == whole);
+            CHECK("one short", PRINTED_OF_EITHER(whole, rows) == IPNETWORK_SHORT_BUFFER && reported == whole && offsets[0] == 77);
+            reported = 77;
+            CHECK("printed", PRINTED_OF_EITHER(whole, rows + 1) == YES && reported == whole);
             CHECK("printed", memcmp(texts, wanted[which], whole) == 0);
             CHECK("printed", memcmp(offsets, starts[which], (rows + 1) * sizeof *offsets) == 0);
             if (rows > 1) {
                 ipnetwork_ip *first = &ips[rows / 3];
-                told = 77;
+                reported = 77;
                 texts[0] = 'x';
                 offsets[0] = 77;
-                CHECK("one short", PRINTED_OF_EITHER(whole - 1, rows + 1) == IPNETWORK_SHORT_BUFFER && told == whole);
-                told = 77;
+                CHECK("one short", PRINTED_OF_EITHER(whole - 1, rows + 1) == IPNETWORK_SHORT_BUFFER && reported == whole);
+                reported = 77;
                 first->v4.prefix = 33;
                 first->v6.prefix = 129;
                 ips[rows - 1].family = 5;
@@ -1737,7 +1737,7 @@ static void printed_columns_of_either(void) {
                 ips[rows - 1].family = 4;
                 ips[rows - 1].v4.prefix = 33;
                 CHECK("past", PRINTED_OF_EITHER(whole, rows + 1) == IPNETWORK_NO_FAMILY);
-                CHECK("past", told == 77 && texts[0] == 'x' && offsets[0] == 77);
+                CHECK("past", reported == 77 && texts[0] == 'x' && offsets[0] == 77);
             }
             leave_edge(texts, whole);
             leave_edge(offsets, (rows + 1) * sizeof *offsets);
@@ -1746,9 +1746,9 @@ static void printed_columns_of_either(void) {
         leave_edge(addresses, rows * sizeof *addresses);
     }
     uint32_t offset = 77;
-    size_t told = 77;
-    CHECK("NULL", ipnetwork_print_column(NULL, 0, NULL, 0, &offset, 1, &told) == YES && told == 0 && offset == 0);
-    CHECK("NULL", ipnetwork_address_print_column(NULL, 0, NULL, 0, NULL, 0, &told) == IPNETWORK_SHORT_BUFFER && told == 0);
+    size_t reported = 77;
+    CHECK("NULL", ipnetwork_print_column(NULL, 0, NULL, 0, &offset, 1, &reported) == YES && reported == 0 && offset == 0);
+    CHECK("NULL", ipnetwork_address_print_column(NULL, 0, NULL, 0, NULL, 0, &reported) == IPNETWORK_SHORT_BUFFER && reported == 0);
 }
 
 /* The offset of each field, and the bytes of structs that are read. */

@@ -2,8 +2,8 @@
 
 package ipnetwork
 
-// From Go 1.24 on, cgo is told that these functions keep no pointer and do not call back into Go, so what their callers
-// pass may be on the stack.
+// From Go 1.24 on, cgo knows by these lines that the functions keep no pointer and do not call back into Go, so what
+// their callers pass may be on the stack.
 
 /*
 #cgo noescape ipnetwork_v4_contains_column

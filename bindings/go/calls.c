@@ -57,11 +57,11 @@ ipnetwork_fault ipnetwork_go_contains_column(size_t width, const uint8_t *struct
  * search in ranges has no other. */
 ipnetwork_fault ipnetwork_go_find_column(size_t width, const uint8_t *structs, size_t struct_count, const uint32_t *index,
                                          size_t index_length, const int64_t *numbers, const uint8_t *addresses,
-                                         size_t count, int64_t *told) {
+                                         size_t count, int64_t *answers) {
     uint8_t faults[AT_ONCE];
-    memset(told, 0xff, count * sizeof *told);
+    memset(answers, 0xff, count * sizeof *answers);
     for (size_t row = 0; row < count; row += AT_ONCE) {
-        size_t rows = at_most(count - row), *places = (size_t *)(told + row);
+        size_t rows = at_most(count - row), *places = (size_t *)(answers + row);
         ipnetwork_fault fault =
             width == 4
                 ? ipnetwork_v4_ranges_find_column((const ipnetwork_v4 *)structs, struct_count, (const size_t *)numbers,
@@ -82,10 +82,10 @@ ipnetwork_fault ipnetwork_go_table(size_t width, const uint8_t *networks, size_t
 }
 
 ipnetwork_fault ipnetwork_go_ranges(size_t width, const uint8_t *blocks, size_t count, const uint32_t *index,
-                                    size_t index_length, const int64_t *numbers, uint8_t *ranges, int64_t *beside,
+                                    size_t index_length, const int64_t *numbers, uint8_t *ranges, int64_t *range_numbers,
                                     size_t *range_count) {
     searched_list table = {width, blocks, count, index, index_length};
-    return table_ranges(&table, numbers, ranges, beside, range_count);
+    return table_ranges(&table, numbers, ranges, range_numbers, range_count);
 }
 
 size_t ipnetwork_go_index_size(size_t count) { return list_index_size(count); }

@@ -32,7 +32,7 @@ ipnetwork_fault ipnetwork_go_contains_column(size_t width, const uint8_t *struct
                                   size_t index_length, const uint8_t *addresses, size_t count, uint8_t *answers);
 ipnetwork_fault ipnetwork_go_find_column(size_t width, const uint8_t *structs, size_t struct_count, const uint32_t *index,
                               size_t index_length, const int64_t *numbers, const uint8_t *addresses, size_t count,
-                              int64_t *told);
+                              int64_t *answers);
 
 /* Makes the table of networks of one family: their blocks and the places of the networks, for which there is room. */
 ipnetwork_fault ipnetwork_go_table(size_t width, const uint8_t *networks, size_t count, uint8_t *blocks, size_t *places);
@@ -40,7 +40,7 @@ ipnetwork_fault ipnetwork_go_table(size_t width, const uint8_t *networks, size_t
 /* Makes the ranges of a table by its index, with the number of the longest block of each, or -1, and writes how many
  * there are: at most twice as many as blocks, for which there is room. */
 ipnetwork_fault ipnetwork_go_ranges(size_t width, const uint8_t *blocks, size_t count, const uint32_t *index,
-                                    size_t index_length, const int64_t *numbers, uint8_t *ranges, int64_t *beside,
+                                    size_t index_length, const int64_t *numbers, uint8_t *ranges, int64_t *range_numbers,
                                     size_t *range_count);
 
 /* The length of the index of a list, and the index itself. */

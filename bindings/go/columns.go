@@ -18,13 +18,13 @@ func (network Network) ContainsColumn(packed []byte, answers []byte) error {
 		return NoFamily
 	}
 	rows, addresses := C.size_t(len(packed)/int(network.width/8)), bytesOf(packed)
-	told, room := bytesOf(answers), C.size_t(len(answers))
+	out, room := bytesOf(answers), C.size_t(len(answers))
 	if network.width == 32 {
 		four := network.four()
-		return faultOf(C.ipnetwork_v4_contains_column(&four, addresses, rows, told, room))
+		return faultOf(C.ipnetwork_v4_contains_column(&four, addresses, rows, out, room))
 	}
 	six := network.six()
-	return faultOf(C.ipnetwork_v6_contains_column(&six, addresses, rows, told, room))
+	return faultOf(C.ipnetwork_v6_contains_column(&six, addresses, rows, out, room))
 }
 
 // own returns a copy of the offsets of a column, which is what the library checks and what it uses, whatever another
@@ -76,12 +76,12 @@ func fill(networks []Network, made []C.ipnetwork_ip, faults []byte) {
 // ParseColumn is like ReadColumn, but returns new slices.
 func ParseColumn(texts []byte, offsets []uint32) ([]Network, []Fault, error) {
 	rows := rowsOf(offsets)
-	networks, told := make([]Network, rows), make([]byte, rows)
-	if err := ReadColumn(texts, offsets, networks, told); err != nil {
+	networks, codes := make([]Network, rows), make([]byte, rows)
+	if err := ReadColumn(texts, offsets, networks, codes); err != nil {
 		return nil, nil, err
 	}
 	faults := make([]Fault, rows)
-	widen(told, faults)
+	widen(codes, faults)
 	return networks, faults, nil
 }
 
@@ -89,15 +89,15 @@ func ParseColumn(texts []byte, offsets []uint32) ([]Network, []Fault, error) {
 // address, it returns the zero netip.Addr, which is in no set, so not in a deny list either: ask its IsValid first.
 func ParseAddrColumn(texts []byte, offsets []uint32) ([]netip.Addr, error) {
 	rows := rowsOf(offsets)
-	held, told, offsets := make([]C.ipnetwork_address, rows), make([]byte, rows), own(offsets)
+	held, codes, offsets := make([]C.ipnetwork_address, rows), make([]byte, rows), own(offsets)
 	number := C.ipnetwork_address_read_column((*C.char)(unsafe.Pointer(start(texts))), size(texts), offsetsOf(offsets), size(offsets),
-		start(held), size(held), bytesOf(told), size(told))
+		start(held), size(held), bytesOf(codes), size(codes))
 	if number != C.IPNETWORK_OK {
 		return nil, Fault(number)
 	}
 	addresses := make([]netip.Addr, rows)
 	for row := range held {
-		if told[row] == C.IPNETWORK_OK {
+		if codes[row] == C.IPNETWORK_OK {
 			addresses[row] = taken(&held[row])
 		}
 	}

@@ -22,7 +22,7 @@ type textRoom struct {
 	bytes   []byte
 	offsets [portion + 1]uint32
 	made    [portion]C.ipnetwork_ip
-	told    [portion]byte
+	codes   [portion]byte
 }
 
 // textRooms holds rooms for reuse.
@@ -49,11 +49,11 @@ func ParseEach(texts []string) ([]Network, []Fault) {
 	for from := 0; from < len(texts); {
 		rows := room.take(texts[from:])
 		made := room.made[:rows]
-		if err := readInto(room.bytes, room.offsets[:rows+1], made, room.told[:rows]); err != nil {
+		if err := readInto(room.bytes, room.offsets[:rows+1], made, room.codes[:rows]); err != nil {
 			panic(err)
 		}
-		fill(networks[from:], made, room.told[:])
-		widen(room.told[:rows], faults[from:])
+		fill(networks[from:], made, room.codes[:])
+		widen(room.codes[:rows], faults[from:])
 		from += rows
 		if from < len(texts) && len(texts[from]) > longest {
 			networks[from], faults[from] = read(texts[from])
@@ -67,9 +67,9 @@ func ParseEach(texts []string) ([]Network, []Fault) {
 }
 
 // widen converts the fault of each row.
-func widen(told []byte, faults []Fault) {
-	faults = faults[:len(told)]
-	for row, fault := range told {
+func widen(codes []byte, faults []Fault) {
+	faults = faults[:len(codes)]
+	for row, fault := range codes {
 		faults[row] = Fault(fault)
 	}
 }

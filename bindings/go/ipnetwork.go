@@ -11,7 +11,7 @@
 //	denied.Contains(peer.Addr())
 //
 // With Mapped, what is said of either form counts: an IPv4-mapped IPv6 address is a member if the IPv4 address, or the
-// IPv6 address as it stands, is one; its longest network is that of the IPv4 address, and if there is none that of the
+// IPv6 address itself, is one; its longest network is that of the IPv4 address, and if there is none that of the
 // IPv6 address; and so for a network within ::ffff:0:0/96.
 //
 // An address with a zone, such as fe80::1%eth0, is a member of nothing, as of a netip.Prefix.
@@ -65,19 +65,19 @@ func init() {
 
 // Version returns the version of the library, such as 0.2.0.
 func Version() string {
-	version, _, _ := strings.Cut(told(), " (")
+	version, _, _ := strings.Cut(versionText(), " (")
 	return version
 }
 
 // Build returns which build of the library it is: proved, or plain Rust, made of proved sources. The latter is tested,
 // and not proved.
 func Build() string {
-	_, build, _ := strings.Cut(told(), " (")
+	_, build, _ := strings.Cut(versionText(), " (")
 	return strings.TrimSuffix(build, ")")
 }
 
-// told returns the text of the library about itself: its version, and in parentheses which build it is.
-func told() string {
+// versionText returns the text of the library about itself: its version, and in parentheses which build it is.
+func versionText() string {
 	call := C.ipnetwork_go_build()
 	mustBe(call.fault)
 	return C.GoStringN(&call.text[0], C.int(call.length))

@@ -84,12 +84,12 @@ func TestBuild(t *testing.T) {
 	if !regexp.MustCompile(`^\d+\.\d+\.\d+(-dev)?$`).MatchString(Version()) {
 		t.Fatalf("the version is %q", Version())
 	}
-	told := fmt.Sprintf("%s (%s)", Version(), Build())
+	got := fmt.Sprintf("%s (%s)", Version(), Build())
 	if build := Build(); build != "proved" && build != "plain Rust, made of proved sources" {
 		t.Fatalf("the build is %q", build)
 	}
 	if wanted, is := os.LookupEnv("IPNETWORK_BUILD"); is {
-		equal(t, "build", told, wanted)
+		equal(t, "build", got, wanted)
 	}
 }
 

@@ -8,7 +8,7 @@ import (
 	"testing"
 )
 
-// nearMapped returns random networks within, around and beside ::ffff:192.0.2.0/120 and 192.0.2.0/24, by net/netip.
+// nearMapped returns random networks within, around and next to ::ffff:192.0.2.0/120 and 192.0.2.0/24, by net/netip.
 func nearMapped(random *rand.Rand) (prefixes []netip.Prefix, networks []Network) {
 	for row := random.Intn(9); row >= 0; row-- {
 		four := netip.AddrFrom4([4]byte{192, 0, 2, byte(random.Intn(256))})
@@ -79,7 +79,7 @@ func TestMapped(t *testing.T) {
 			should := []any{wanted, wanted, is, is, is || inOther, is && inOther, is && !inOther, !is && address.IsValid() && address.Zone() == ""}
 			for at := range own {
 				if own[at] != should[at] {
-					t.Fatalf("%v in %v beside %v: here %v, wanted %v", address, prefixes, others, own, should)
+					t.Fatalf("%v in %v and %v: here %v, wanted %v", address, prefixes, others, own, should)
 				}
 			}
 			equal(t, "only adds", plain.Contains(address) && !is, false)

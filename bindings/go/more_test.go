@@ -70,7 +70,7 @@ func TestScan(t *testing.T) {
 	equal(t, "NULL", fmt.Sprint(written, err), "<nil> <nil>")
 }
 
-// Sets beside the same questions about each of 256 addresses of each family.
+// Sets compared with the same questions about each of 256 addresses of each family.
 func TestSetQuestions(t *testing.T) {
 	random := rand.New(rand.NewSource(8))
 	whole := must(NewSet([]Network{MustParse("0.0.0.0/0"), MustParse("::/0")}))
@@ -89,9 +89,9 @@ func TestSetQuestions(t *testing.T) {
 				ranges[len(ranges)-1] += fmt.Sprintf("%d}", host)
 			}
 		}
-		told := set.Ranges()
-		equal(t, "ranges", fmt.Sprint(told[:len(told)/2]), fmt.Sprint(ranges))
-		equal(t, "as many of each family", len(told), 2*len(ranges))
+		all := set.Ranges()
+		equal(t, "ranges", fmt.Sprint(all[:len(all)/2]), fmt.Sprint(ranges))
+		equal(t, "as many of each family", len(all), 2*len(ranges))
 		equal(t, "empty", set.IsEmpty(), len(networks) == 0)
 		equal(t, "the complement of it", must(rest.Complement()).Equal(set), true)
 		equal(t, "both", must(rest.Union(set)).Equal(whole), true)

@@ -114,7 +114,7 @@ func FuzzSearch(f *testing.F) {
 	})
 }
 
-// Questions about one network beside the column of the library.
+// Questions about one network compared with the column of the library.
 func TestContainsAsColumn(t *testing.T) {
 	random := rand.New(rand.NewSource(94))
 	for row := 0; row < rows(); row++ {
@@ -137,13 +137,13 @@ func TestOtherLayout(t *testing.T) {
 	networks := []Network{MustParse("0.0.0.0/1"), MustParse("::/1")}
 	set, _ := NewSet(networks)
 	table, _ := NewTable(networks)
-	ask := func() (told []any) {
+	ask := func() (answers []any) {
 		for _, address := range addresses {
 			number, width := numbered(address)
-			told = append(told, number, width, number.address(width), set.Contains(address), table.Find(address),
+			answers = append(answers, number, width, number.address(width), set.Contains(address), table.Find(address),
 				networks[0].Contains(address), networks[1].Contains(address))
 		}
-		return told
+		return answers
 	}
 	wanted, four, six := fmt.Sprint(ask()), fourKind, sixKind
 	fourKind, sixKind = kind("::1", "1.2.3.4"), kind("::1", "1.2.3.4")

@@ -50,7 +50,7 @@ func NewSet(networks []Network) (Set, error) {
 
 // Mapped returns the set with the IPv4-mapped IPv6 address of each of its IPv4 addresses added, so that peers of a
 // socket for both families are found in lists of IPv4 networks. What is said of either form counts: an IPv4-mapped IPv6
-// address is a member if the IPv4 address, or the IPv6 address as it stands, is one; and so for a network within
+// address is a member if the IPv4 address, or the IPv6 address itself, is one; and so for a network within
 // ::ffff:0:0/96.
 //
 // It takes as long as Union, and 33 bytes for each IPv4 network: make it once. Networks, Ranges and JSON have the added
@@ -235,13 +235,13 @@ func (set Set) ContainsColumn(packed []byte, length int, answers []byte) error {
 	if len(answers) < rows {
 		return NoRoom
 	}
-	held, addresses, told := set.lists(), bytesOf(packed), bytesOf(answers)
+	held, addresses, out := set.lists(), bytesOf(packed), bytesOf(answers)
 	if length == 4 {
 		mustBe(C.ipnetwork_go_contains_column(4, bytesOf(held.fours), size(held.fours), start(held.fourIndex),
-			size(held.fourIndex), addresses, C.size_t(rows), told))
+			size(held.fourIndex), addresses, C.size_t(rows), out))
 	} else {
 		mustBe(C.ipnetwork_go_contains_column(16, bytesOf(held.sixes), size(held.sixes), start(held.sixIndex),
-			size(held.sixIndex), addresses, C.size_t(rows), told))
+			size(held.sixIndex), addresses, C.size_t(rows), out))
 	}
 	return nil
 }

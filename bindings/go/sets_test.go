@@ -240,8 +240,8 @@ func TestSetOfJSON(t *testing.T) {
 }
 
 // panics reports whether a question panics.
-func panics(ask func()) (told bool) {
-	defer func() { told = recover() != nil }()
+func panics(ask func()) (panicked bool) {
+	defer func() { panicked = recover() != nil }()
 	ask()
 	return
 }

@@ -57,7 +57,7 @@ func NewTable(networks []Network) (Table, error) {
 }
 
 // Mapped returns the same table, in which what is said of either form of an IPv4-mapped IPv6 address counts: its longest
-// network is that of the IPv4 address, and if there is none that of the IPv6 address as it stands.
+// network is that of the IPv4 address, and if there is none that of the IPv6 address itself.
 func (table Table) Mapped() Table {
 	table.mapped = true
 	return table
@@ -71,23 +71,23 @@ func ranged[Struct any](width C.size_t, networks []Struct, numbers []int) ([]Str
 	if number := C.ipnetwork_go_table(width, bytesOf(networks), size(networks), in, start(places)); number != C.IPNETWORK_OK {
 		return nil, nil, nil, Fault(number)
 	}
-	beside := make([]int, len(places))
+	blockNumbers := make([]int, len(places))
 	for row, place := range places {
-		beside[row] = numbers[place]
+		blockNumbers[row] = numbers[place]
 	}
 	index, err := indexed(width, blocks)
 	if err != nil {
 		return nil, nil, nil, err
 	}
-	room, told, count := make([]Struct, 2*len(blocks)), make([]int, 2*len(blocks)), C.size_t(0)
-	number := C.ipnetwork_go_ranges(width, in, size(blocks), start(index), size(index), int64s(beside), bytesOf(room),
-		int64s(told), &count)
+	room, rangeNumbers, count := make([]Struct, 2*len(blocks)), make([]int, 2*len(blocks)), C.size_t(0)
+	number := C.ipnetwork_go_ranges(width, in, size(blocks), start(index), size(index), int64s(blockNumbers), bytesOf(room),
+		int64s(rangeNumbers), &count)
 	if number != C.IPNETWORK_OK {
 		return nil, nil, nil, Fault(number)
 	}
 	ranges := trimmed(room[:count])
 	index, err = indexed(width, ranges)
-	return ranges, trimmed(told[:count]), index, err
+	return ranges, trimmed(rangeNumbers[:count]), index, err
 }
 
 // int64s returns a pointer to the first of some numbers, which have 64 bits here, or nil.
@@ -136,14 +136,14 @@ func (table Table) FindColumn(packed []byte, length int, numbers []int) error {
 	if len(numbers) < rows {
 		return NoRoom
 	}
-	held, addresses, told := table.ranges(), bytesOf(packed), int64s(numbers)
+	held, addresses, out := table.ranges(), bytesOf(packed), int64s(numbers)
 	if length == 4 {
 		mustBe(C.ipnetwork_go_find_column(4, bytesOf(held.fours), size(held.fours), start(held.fourIndex),
-			size(held.fourIndex), int64s(held.fourNumbers), addresses, C.size_t(rows), told))
+			size(held.fourIndex), int64s(held.fourNumbers), addresses, C.size_t(rows), out))
 		return nil
 	}
 	mustBe(C.ipnetwork_go_find_column(16, bytesOf(held.sixes), size(held.sixes), start(held.sixIndex),
-		size(held.sixIndex), int64s(held.sixNumbers), addresses, C.size_t(rows), told))
+		size(held.sixIndex), int64s(held.sixNumbers), addresses, C.size_t(rows), out))
 	for row := 0; table.mapped && row < rows; row++ {
 		if number := ofOctets((*[16]byte)(packed[16*row:])); number.isMapped() {
 			if found := held.findFour(number); found >= 0 {

@@ -45,7 +45,7 @@ says 10.0.0.0/8/8 "more than one slash"
 says 10.0.0/8 "no address"
 says 10.0.0.0/33 "no prefix length of the family"
 says ::1/255.0.0.0 "no prefix length of the family"
-# All lines that are no networks are told.
+# All lines that are no networks are reported.
 printf '%s\n' 10.0.0/8 10.0.0.0/8 ::1/129 > $out/list.txt
 refused $out/list.txt c/allowed.txt
 if [ "$(cut -d: -f2-3 $out/refused.log | tr '\n' ';')" != "1: no address;3: no prefix length of the family;" ]; then

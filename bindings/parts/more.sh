@@ -15,8 +15,8 @@ else
     if has "Python: columns" numpy python3-numpy; then
         has "Python: columns of pandas" pandas python3-pandas || true
         "$python" -c 'import doctest, sys, ipnetwork.columns as columns; sys.exit(doctest.testmod(columns).failed)'
-        "$python" told.py test_columns
-        IPNETWORK_LIBRARY="$made/libipnetwork_c.so" "$python" told.py test_columns
+        "$python" run_tests.py test_columns
+        IPNETWORK_LIBRARY="$made/libipnetwork_c.so" "$python" run_tests.py test_columns
     fi
     if has "Python: dask" distributed python3-distributed; then
         if has "Python: a log filtered by dask" pandas python3-pandas; then

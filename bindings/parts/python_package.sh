@@ -29,7 +29,7 @@ python_tests() {
         cd "$1"
         "$python" -c 'import ipnetwork; print("Python: by", ipnetwork.CORE)'
         for test in $tests_of_python test_wide_columns; do
-            "$python" told.py "$test"
+            "$python" run_tests.py "$test"
         done
         "$python" against_ipaddress.py "$2"
     )

@@ -31,7 +31,7 @@ sys.exit("%d.%d" % sys.version_info[:2] + free != sys.argv[1])' "$1" > /dev/null
                 cp out/native_of_versions/ipnetwork/_native.abi3.so "out/python$version/ipnetwork"
             fi
             for test in $tests_of_python; do
-                (cd "out/python$version" && "$other" told.py "$test")
+                (cd "out/python$version" && "$other" run_tests.py "$test")
             done
             echo "$what"
         fi

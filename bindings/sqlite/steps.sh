@@ -59,7 +59,7 @@ for kind in sql text; do
 done
 (cd .. && sqlite3 :memory: < "bindings/$out/example.sql") > $out/example_said.text
 diff $out/example.text $out/example_said.text
-echo "SQLite: the example of README.md prints what stands there"
+echo "SQLite: the example of README.md prints what the page shows"
 
 # PYTHON: whether its own module loads extensions.
 loads() {
@@ -73,7 +73,7 @@ fi
 if loads "$loading"; then
     "$loading" sqlite/against_ipaddress.py "$PWD/$out/cidr.so" "$((rows / 10))"
 else
-    skip "SQLite: beside ipaddress" "module sqlite3 that loads extensions in $python" "python3"
+    skip "SQLite: compared with ipaddress" "module sqlite3 that loads extensions in $python" "python3"
 fi
 
 if [ "$measure" = yes ]; then

@@ -133,7 +133,7 @@ a_prefix_length_of_129_is_not_read law before after h =
     let (n, reads, holds) = a_read_text_is_held ReadsV6Network HoldsV6 (codes "::/129") before after h in
     let is : Ok n ≡ Err Prefix = (law (codes "::/129") (Ok n)).0 reads in cc
 
--- 10.0.0.0/33 is refused for its prefix length; the call that tells no cause returns `address` for it
+-- 10.0.0.0/33 is refused for its prefix length; the call that reports no cause returns `address` for it
 pub no_cause_is_told : IsComputed ReadsIpNetwork ip_network_of → (before : IpInC)
     → ip_reads (codes "10.0.0.0/33") before before address
 unfolding digits v6_of gap_below

@@ -9,6 +9,8 @@ pub use Rattle.ipnetwork_c.proofs.HighFirst.{turned_halves}
 pub use Rattle.ipnetwork_c.proofs.HighHalves.{member_by_half, none_near, told_near}
 pub use Rattle.ipnetwork_c.proofs.IndexParts.{before_all, before_more, index_made, lies_before, own_is, parts_all, span_is, starts_more, two_halves}
 pub use Rattle.ipnetwork_c.proofs.Indexed.{ends_at, next_told, read_before_tells}
+pub use Rattle.ipnetwork_c.proofs.KeptRoom.{kept_fits}
+pub use Rattle.ipnetwork_c.proofs.Keys.{keyed}
 pub use Rattle.ipnetwork_c.proofs.MemberCounts.{ends_apart, next_in_octets, nth_from_least}
 pub use Rattle.ipnetwork_c.proofs.Octets.{v4_again, v6_again}
 pub use Rattle.ipnetwork_c.proofs.Offsets.{Fall, IsLast, Rise, are_where_last_fits, fall_here, fall_on, last_here, rise_on}

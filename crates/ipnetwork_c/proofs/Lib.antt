@@ -10,6 +10,8 @@ pub mod HighHalves
 pub mod IndexExamples
 pub mod IndexParts
 pub mod Indexed
+pub mod KeptRoom
+pub mod Keys
 pub mod Known
 pub mod MemberCounts
 pub mod Octets

@@ -118,7 +118,7 @@ numbers_of_none_are_none =
       ),
     )
 
--- the only number of 10.0.0.0/8 is 500, so its place, 0, is not put beside a range
+-- the only number of 10.0.0.0/8 is 500, so its place, 0, is not written next to a range
 no_place_is_put : (places : List ℕ) → length places ≡ 2 → ¬ (0 ∷ no_place ∷ [] ≡ map (number_at (500 ∷ [])) places)
 no_place_is_put [] size is = omega (arith, size)
 no_place_is_put (zero ∷ more) size is = let put : 0 ≡ 500 = ap (λ (l : List ℕ). get_or l 0 0) is in omega (arith, put)

@@ -68,7 +68,7 @@ a_table_that_fits_is_not_refused list x before after fit (i, comes, On (fits, On
 a_table_that_fits_is_not_refused list x before after fit (i, comes, Nothing (not, is) same) =
     not (last_of_what_fits list i fit)
 
--- 10.1.0.0/16 has the address: the search does not go on to the struct before it
+-- 10.1.0.0/16 has the address: the search does not continue to the struct before it
 abbrev past_wide : Network
 past_wide = record { address = 0x0a000000; prefix = 200 }
 
@@ -104,7 +104,7 @@ a_struct_that_the_search_does_not_come_to_is_not_judged before after (i, comes, 
     not (subst (LastFits 32 (past_wide ∷ narrow ∷ [])) (sym (stays_at_the_first i comes)) (λ n some there.
     let told : Some narrow ≡ Some n = there in let prefix_is : 16 ≡ n.prefix = cc in omega (arith, prefix_is)))
 
--- 10.2.0.0 is not in 10.1.0.0/16: the search goes on to the struct before it, which begins no later than a block that
+-- 10.2.0.0 is not in 10.1.0.0/16: the search continues to the struct before it, which begins no later than a block that
 -- has both
 comes_to_the_first_too : (i : ℕ) → ComesTo 32 (past_wide ∷ narrow ∷ []) 0x0a020000 i → 0 < i
 comes_to_the_first_too i (First j stands) = first j stands
@@ -143,7 +143,7 @@ a_struct_around_the_address_is_judged before after (i, comes, Nothing (not, is) 
 pub no_search_stands_behind_a_later_address : ¬ (StandsAt (past ∷ []) 4 1)
 no_search_stands_behind_a_later_address h = let before : 5 ≤ 4 = h.last past (omega arith) refl in omega (arith, before)
 
--- a search passes by a block without the address, and not by the block of all addresses
+-- a search goes past a block without the address, but not past the block of all addresses
 pub a_block_without_the_address_is_passed : PassesBy 32 (past_wide ∷ narrow ∷ []) 0x0a020000 1 narrow
 a_block_without_the_address_is_passed =
     record { here = refl; fits = lit≤ tt; has_not = λ m. let same : 0x0a02 ≡ 0x0a01 = m.1 in omega (arith, same) }

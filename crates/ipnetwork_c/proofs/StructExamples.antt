@@ -123,7 +123,7 @@ pub a_prefix_length_of_33_does_not_fit : ¬ (ip_fits
     (either 4 (record { address = replicate 4 0; prefix = 33 }) blank_six))
 a_prefix_length_of_33_does_not_fit (n, stands) = a_prefix_length_past_the_width_stands_for_nothing n stands
 
--- of two structs that represent no network, the first is told
+-- of two structs that represent no network, the first is reported
 pub the_first_of_two_is_told : OfBoth (either 4 (record { address = replicate 4 0; prefix = 33 }) blank_six)
     (either 5 blank blank_six) (λ a b. Writes (λ (told : ℕ). told ≡ 1)) 7 7 prefix
 the_first_of_two_is_told = Nothing
@@ -163,7 +163,7 @@ it_is_no_ipv4_address before h =
     (λ n. Writes (λ (after : AddressInC). HoldsAddress after (ip_high n))) before _ ok
     (record { told = refl; fits = lit≤ tt }) h in let length : 4 ≡ 16 = told.1.1 in omega (arith, length)
 
--- 0.0.0.0/0 is no part of ::/0: 0 is written, and not 1
+-- 0.0.0.0/0 is not part of ::/0: 0 is written, and not 1
 pub no_part_of_the_other_family : TellsOfBoth IpSubnet (either 4 blank blank_six) (either 6 blank blank_six) 7 0 ok
 no_part_of_the_other_family =
     On (

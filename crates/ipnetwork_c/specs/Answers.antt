@@ -15,7 +15,7 @@ ReadsInto Reads Holds text =
     Finds (λ n. Reads text (Ok n)) (λ code. (cause : CidrFault)
     × IsFault (fault_number cause) (Reads text (Err cause)) code) (λ n. Writes (λ held. Holds held n))
 
--- the call goes on if all prefix lengths fit; otherwise the fault is `prefix`
+-- the call continues if all prefix lengths fit; otherwise the fault is `prefix`
 abbrev pub IfFit : {M : Type 0} → Type 0 → (M → M → ℕ → Type 0) → M → M → ℕ → Type 0
 IfFit AllFit GoesOn = Needs AllFit prefix GoesOn
 

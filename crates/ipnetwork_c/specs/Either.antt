@@ -89,11 +89,11 @@ pub record StandsForIp (held : IpInC) (n : IpNetwork) : Type 0 where
   pub told : ip_in held ≡ Some n
   pub fits : IpPrefixFits n
 
--- the call goes on with the network that a struct represents
+-- the call continues with the network that a struct represents
 abbrev pub OfNetwork : {M : Type 0} → IpInC → (IpNetwork → M → M → ℕ → Type 0) → M → M → ℕ → Type 0
 OfNetwork held GoesOn = Finds (StandsForIp held) (NoIpNetwork held) GoesOn
 
--- the call goes on with the networks that two structs represent; the first struct is checked first
+-- the call continues with the networks that two structs represent; the first struct is checked first
 abbrev pub OfBoth : {M : Type 0} → IpInC → IpInC → (IpNetwork → IpNetwork → M → M → ℕ → Type 0) → M → M → ℕ → Type 0
 OfBoth one other GoesOn = OfNetwork one (λ a. OfNetwork other (GoesOn a))
 

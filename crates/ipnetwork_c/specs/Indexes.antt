@@ -45,8 +45,7 @@ abbrev pub MakesIndex : {C : Type 0} → (C → Network) → List C → List ℕ
 MakesIndex held list before = Writes (λ index. (length index ≡ length before) × IsIndexOf (map held list) index) before
 
 -- the same if the list is that of a set; else the index memory is unchanged, with `prefix` if a prefix length is
--- greater
--- than w, and otherwise `no_set`
+-- greater than w, and otherwise `no_set`
 abbrev pub MakesSetIndex : {C : Type 0} → ℕ → (C → Network) → List C → List ℕ → List ℕ → ℕ → Type 0
 MakesSetIndex w held list = IfFit (All (λ c. PrefixFits w (held c)) list)
     (Needs (IsAddressSet w (map held list)) no_set (MakesIndex held list))

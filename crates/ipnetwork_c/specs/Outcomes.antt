@@ -7,7 +7,7 @@ use Rattle.ipnetwork_c.specs.Numbers.{ok, short_buffer}
 abbrev pub Writes : {M : Type 0} → (M → Type 0) → M → M → ℕ → Type 0
 Writes Written before after code = (code ≡ ok) × Written after
 
--- the call goes on, or it returns a fault that has its cause, and the memory is unchanged
+-- the call continues, or it returns a fault whose cause holds, and the memory is unchanged
 pub data Unless {M : Type 0} (Refuses : ℕ → Type 0) (GoesOn : M → M → ℕ → Type 0) (before after : M)
     (code : ℕ) : Type 0 where
   On : GoesOn before after code → Unless Refuses GoesOn before after code
@@ -17,11 +17,11 @@ pub data Unless {M : Type 0} (Refuses : ℕ → Type 0) (GoesOn : M → M → �
 abbrev pub IsFault : ℕ → Type 0 → ℕ → Type 0
 IsFault fault Cause code = Cause × (code ≡ fault)
 
--- the call goes on exactly if `Holds` is true, and otherwise returns the fault
+-- the call continues exactly if `Holds` is true, and otherwise returns the fault
 abbrev pub Needs : {M : Type 0} → Type 0 → ℕ → (M → M → ℕ → Type 0) → M → M → ℕ → Type 0
 Needs Holds fault GoesOn = Unless (IsFault fault (¬ Holds)) (λ before after code. Holds × GoesOn before after code)
 
--- the call goes on with a value that it finds, or returns a fault
+-- the call continues with a value that it finds, or returns a fault
 abbrev pub Finds : {A M : Type 0} → (A → Type 0) → (ℕ → Type 0) → (A → M → M → ℕ → Type 0) → M → M → ℕ → Type 0
 Finds {A} Is Refuses GoesOn = Unless Refuses (λ before after code. (a : A) × Is a × GoesOn a before after code)
 

@@ -1,15 +1,15 @@
 //! The union, intersection and difference of two sets, as lists in the caller's memory.
-ghost use Rattle.std.specs.Prelude.{map};
+ghost use Rattle.std.specs.Prelude.{IsTrue, map};
 ghost use Rattle.ipnetwork_sets.specs.Sets.{HoldSet};
 ghost use Rattle.ipnetwork_c.specs.Sets.{SetOperation};
-ghost use Rattle.ipnetwork_c.specs.Private.Kept.{kept_by};
+ghost use Rattle.ipnetwork_c.specs.Private.Kept.{SurelyFits, kept_by};
 ghost use Rattle.ipnetwork_c.specs.Private.Writing.{PutsSet};
 
 use crate::fault::{NO_SET, OK, PREFIX, SHORT_BUFFER};
 use crate::listed::{Listed, all_fit};
 use crate::writing::{put_blocks, to_usize};
 use ipnetwork_blocks::AddressSpace;
-use ipnetwork_sets::{Difference, Intersection, Union, is_address_set};
+use ipnetwork_sets::{Difference, Intersection, Union, is_address_set, laws};
 
 /// An operation on two sets.
 #[derive(Clone, Copy)]
@@ -39,6 +39,12 @@ pub(crate) fn operate<N: AddressSpace, H: Listed<N>>(
     if !is_address_set::<N, H>(first) || !is_address_set::<N, H>(second) {
         return NO_SET;
     }
+    if surely_fits(operation, first.len(), second.len(), blocks.len()) {
+        laws::shortest();
+        let put = put_kept::<N, H>(operation, first, second, blocks);
+        *count = to_usize(put);
+        return OK;
+    }
     let wanted = put_kept::<N, H>(operation, first, second, &mut []);
     *count = to_usize(wanted);
     if wanted > blocks.len() as u128 {
@@ -46,6 +52,19 @@ pub(crate) fn operate<N: AddressSpace, H: Listed<N>>(
     }
     put_kept::<N, H>(operation, first, second, blocks);
     OK
+}
+
+// Returns whether a list of `room` structs is known to have room for what the operation keeps of
+// sets of these numbers of blocks. If so, nothing is counted first, which would take as long as
+// putting the blocks.
+fn surely_fits(operation: Operation, first: usize, second: usize, room: usize) -> bool
+    ensures { IsTrue result → SurelyFits operation first second room }
+{
+    match operation {
+        Operation::Difference => false,
+        Operation::Union => first <= room && second <= room - first,
+        Operation::Intersection => first <= room && second <= room - first,
+    }
 }
 
 // Puts the blocks of the addresses that the operation keeps at the front of the list, as far as

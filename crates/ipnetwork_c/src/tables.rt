@@ -8,8 +8,8 @@ use ipnetwork_blocks::AddressSpace;
 
 /// Puts the place of the longest block with an address in `place`, by an index of the blocks, or by
 /// none. If the last block that begins at or before the address does not have it, a block that does
-/// contains both, so it begins no later than the bits that both share, with zeros after them: the
-/// search goes on at the last block up to there.
+/// contains both, so it begins no later than the number that has the bits that both share and zeros
+/// after them: the search continues with the last block that begins at or before that number.
 #[inline(always)]
 pub(crate) fn find<N: AddressSpace, H: SearchHint<N>>(
     blocks: &[H],

@@ -7,9 +7,6 @@
 //! in a set or a table they do not check every struct, and in ranges no prefix length. A call that
 //! returns a fault writes nothing, except for the length or number that comes with `SHORT_BUFFER`.
 #![no_std]
-#![allow(unused_imports, unused_labels, unused_variables, dead_code)]
-#![allow(clippy::complexity, clippy::style, clippy::large_enum_variant, clippy::manual_contains,
-    clippy::non_canonical_clone_impl)]
 
 mod lent;
 mod without_std;

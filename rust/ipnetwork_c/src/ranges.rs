@@ -99,10 +99,10 @@ fn put_found(found: usize, place: &mut usize) -> u32 {
     put_or_pass(found != NO_PLACE, found, place, &mut beside)
 }
 
-// Puts the number in `place` if one was found, and else in `beside`, by one store, so that no
-// branch depends on the address. Not inlined: a compiler that sees that nothing reads `beside`
-// omits that store, by a branch that is often mispredicted. The two reads at the end compile to
-// nothing: they tell the proof which of the two references is `place`.
+// Puts the number in `place` if one was found, and otherwise in `beside`, with one store, so that
+// no branch depends on the address. Not inlined: a compiler that sees that nothing reads `beside`
+// skips that store with a branch, which is often mispredicted. The two reads at the end compile to
+// nothing: they show the proof which of the two references is `place`.
 #[inline(never)]
 fn put_or_pass(is_found: bool, number: usize, place: &mut usize, beside: &mut usize) -> u32 {
     let (target, other) = in_order(is_found, place, beside);

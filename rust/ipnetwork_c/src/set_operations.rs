@@ -33,6 +33,11 @@ pub(crate) fn operate<N: AddressSpace, H: Listed<N>>(
     if !is_address_set::<N, H>(first) || !is_address_set::<N, H>(second) {
         return NO_SET;
     }
+    if surely_fits(operation, first.len(), second.len(), blocks.len()) {
+        let put = put_kept::<N, H>(operation, first, second, blocks);
+        *count = to_usize(put);
+        return OK;
+    }
     let wanted = put_kept::<N, H>(operation, first, second, &mut []);
     *count = to_usize(wanted);
     if wanted > blocks.len() as u128 {
@@ -40,6 +45,17 @@ pub(crate) fn operate<N: AddressSpace, H: Listed<N>>(
     }
     put_kept::<N, H>(operation, first, second, blocks);
     OK
+}
+
+// Returns whether a list of `room` structs is known to have room for what the operation keeps of
+// sets of these numbers of blocks. If so, nothing is counted first, which would take as long as
+// putting the blocks.
+fn surely_fits(operation: Operation, first: usize, second: usize, room: usize) -> bool {
+    match operation {
+        Operation::Difference => false,
+        Operation::Union => first <= room && second <= room - first,
+        Operation::Intersection => first <= room && second <= room - first,
+    }
 }
 
 // Puts the blocks of the addresses that the operation keeps at the front of the list, as far as
