@@ -266,7 +266,7 @@ def _rust() -> dict[str, bytes]:
     head, *blocks = locked.split("[[package]]\n")
     kept = [block.rstrip() for block in blocks if block.split('"')[1] in packages]
     files = {
-        "rust/Cargo.toml": (workspace + settings[settings.index("[profile.release]") :]).encode(),
+        "rust/Cargo.toml": (workspace + settings[settings.index("[workspace.lints") :]).encode(),
         "rust/Cargo.lock": (head + "\n\n".join("[[package]]\n" + block for block in kept) + "\n").encode(),
     }
     for package in packages:

@@ -3,7 +3,7 @@
     speed.py [networks|columns|sets|routes ...]
 
 With no argument all four parts are measured. Each figure is the least of 15 runs, which take turns, so that what else the machine does meets both. Which core of the
-package is measured stands in the first line: see ``ipnetwork.CORE``. The columns need NumPy.
+package is measured is in the first line: see ``ipnetwork.CORE``. The columns need NumPy.
 """
 
 import array
@@ -155,7 +155,8 @@ def sets_and_tables(kind, address, width, rng):
 
 
 def routes(kind, address, width, rng):
-    """Addresses, of which half lie in one of MANY routes, asked for the longest: a row, beside py-radix if it is here."""
+    """Addresses, of which half lie in one of MANY routes, asked for the longest: a row, compared with py-radix if it is
+    here."""
     shortest = 20 if width == 32 else 32
     longest = 29 if width == 32 else 65
     networks = [kind.of(address(rng.getrandbits(width)), rng.randrange(shortest, longest)) for _ in range(MANY)]

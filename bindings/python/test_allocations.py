@@ -193,7 +193,7 @@ class Refused(unittest.TestCase):
                     given, raised = make(), False
                     set_nomemory(turn, turn + 1)
                     try:
-                        told = call(given)
+                        got = call(given)
                     except MemoryError:
                         raised = True
                     finally:
@@ -201,7 +201,7 @@ class Refused(unittest.TestCase):
                     self.assertEqual([each(given) for each in calls], wanted)
                     self.assertEqual(len(given), len(make()))
                     if not raised:
-                        self.assertEqual(told, answer)
+                        self.assertEqual(got, answer)
                         break
 
     @unittest.skipIf(FRAMES, "the interpreter faults")
@@ -229,8 +229,8 @@ class Refused(unittest.TestCase):
                         raised = True
                     finally:
                         remove_mem_hooks()
-                    told = list(table.items())
-                    self.assertEqual(told, before if raised else after, (name, new, turn))
+                    got = list(table.items())
+                    self.assertEqual(got, before if raised else after, (name, new, turn))
                     for asked in test_memory.ASKED[:2]:
                         found = table.longest(asked)
                         self.assertEqual(found, PrefixTable(table.items()).longest(asked))

@@ -25,8 +25,8 @@ class Build(unittest.TestCase):
     def test_what_is_loaded(self):
         self.assertRegex(ipnetwork.__version__, r"\A\d+\.\d+\.\d+(-dev)?\Z")
         self.assertIn(ipnetwork.__build__, BUILDS)
-        told = f"{ipnetwork.__version__} ({ipnetwork.__build__})"
-        self.assertEqual(told, os.environ.get("IPNETWORK_BUILD", told))
+        got = f"{ipnetwork.__version__} ({ipnetwork.__build__})"
+        self.assertEqual(got, os.environ.get("IPNETWORK_BUILD", got))
 
     def test_help_names_the_build_and_no_other(self):
         shown = pydoc.plain(pydoc.render_doc(ipnetwork))

@@ -1,4 +1,4 @@
-"""The builder of sets of addresses beside Python's own ``set`` of the same addresses."""
+"""The builder of sets of addresses compared with Python's own ``set`` of the same addresses."""
 
 import copy
 import ipaddress
@@ -15,7 +15,7 @@ from test_sets import EVERYTHING, WINDOWS, addresses, drawn, least, networks_of
 
 
 class Builders(unittest.TestCase):
-    def test_beside_set(self):
+    def test_compared_with_set(self):
         rng = random.Random(58)
         for window in WINDOWS:
             for count in range(8):

@@ -319,11 +319,11 @@ class Columns(unittest.TestCase):
         answers += [[True, None, None, False], [0, None, None, -1]]
         for column in (rows, numpy.array(rows, object)):
             for call, answer in zip(self.questions(invalid="null"), answers):
-                told = call(column)
-                self.assertIsInstance(told, numpy.ma.MaskedArray)
-                self.assertEqual((told.tolist(), told.mask.tolist()), (answer, [False, True, True, False]))
-                if told.dtype != object:
-                    self.assertEqual(told.filled().tolist(), [each or 0 if told.dtype == bool else -1 if each is None else each for each in answer])
+                got = call(column)
+                self.assertIsInstance(got, numpy.ma.MaskedArray)
+                self.assertEqual((got.tolist(), got.mask.tolist()), (answer, [False, True, True, False]))
+                if got.dtype != object:
+                    self.assertEqual(got.filled().tolist(), [each or 0 if got.dtype == bool else -1 if each is None else each for each in answer])
                 self.assertEqual(call([]).tolist(), [])
         # What was read once is as the rows were.
         addresses, _ = read_addresses(rows, invalid=False)
@@ -341,9 +341,9 @@ class Columns(unittest.TestCase):
         kinds = ["boolean", "boolean", "Int64", "string", "string"]
         answers = [{"w": True, "z": False}] * 2 + [{"w": 0, "z": -1}] + [{"w": "lab"}] * 2
         for call, kind, answer in zip(self.questions(invalid="null"), kinds, answers):
-            told = call(log)
-            self.assertEqual((str(told.dtype), told.index.tolist()), (kind, list("wxyz")))
-            self.assertEqual(told.dropna().to_dict(), answer)
+            got = call(log)
+            self.assertEqual((str(got.dtype), got.index.tolist()), (kind, list("wxyz")))
+            self.assertEqual(got.dropna().to_dict(), answer)
             self.assertEqual(call(log[:0]).index.tolist(), [])
         table = Table([ip_network("10.0.0.0/8")], [7])
         self.assertEqual(table.join(log, 0, invalid="null").to_dict(), {"w": 7, "x": pandas.NA, "y": pandas.NA, "z": 0})

@@ -11,8 +11,8 @@ import ipnetwork
 
 SCOPE = {**vars(ipaddress), **vars(ipnetwork)}
 PUBLIC = [(name, getattr(ipnetwork, name)) for name in ipnetwork.__all__ if name != "CORE"]
-#: Python 3.9 tells no signature of a class of an extension.
-UNTOLD = sys.version_info < (3, 10) and ipnetwork.CORE == "native"
+#: Python 3.9 has no signature of a class of an extension.
+WITHOUT_SIGNATURES = sys.version_info < (3, 10) and ipnetwork.CORE == "native"
 
 
 def members():
@@ -45,13 +45,13 @@ class Texts(unittest.TestCase):
 
     def test_signatures(self):
         for name, value in PUBLIC:
-            if not (isinstance(value, type) and (UNTOLD or issubclass(value, Exception))):
+            if not (isinstance(value, type) and (WITHOUT_SIGNATURES or issubclass(value, Exception))):
                 inspect.signature(value)
         for name, _, value in members():
             if callable(value):
                 with self.subTest(name):
                     inspect.signature(value)
-        classes = () if UNTOLD else (ipnetwork.IPv4Network, ipnetwork.IPv6Network)
+        classes = () if WITHOUT_SIGNATURES else (ipnetwork.IPv4Network, ipnetwork.IPv6Network)
         for made in (ipnetwork.ip_network, *classes):
             self.assertEqual(list(inspect.signature(made).parameters), ["text"])
         subnet_of = inspect.signature(ipnetwork.IPv6Network.subnet_of)

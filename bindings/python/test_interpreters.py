@@ -82,9 +82,9 @@ def asked(turns):
 
 def run(number, code):
     """Runs code in an interpreter, and raises what it raises."""
-    told = interpreters.run_string(number, code)
-    if told is not None:  # from Python 3.13 on it is given back
-        raise AssertionError(getattr(told, "formatted", told))
+    got = interpreters.run_string(number, code)
+    if got is not None:  # from Python 3.13 on it is given back
+        raise AssertionError(getattr(got, "formatted", got))
 
 
 def at_once(calls):
@@ -153,15 +153,15 @@ class Threads(unittest.TestCase):
         for _ in range(200):
             networks = [ipnetwork.ip_network("10.1.9.32/16"), ipnetwork.ip_network("2001:db8::/32")]
             parts = ("ip", "netmask", "network_address", "broadcast_address", "num_addresses")
-            told = []
+            got = []
 
             def ask():
-                told.append([[str(it), *(getattr(it, part) for part in parts)] for it in networks])
+                got.append([[str(it), *(getattr(it, part) for part in parts)] for it in networks])
 
             at_once([ask] * 4)
-            self.assertEqual(told, [told[0]] * 4)
+            self.assertEqual(got, [got[0]] * 4)
             wanted = ["10.1.9.32/16", IPv4Address("10.1.9.32"), IPv4Address("255.255.0.0")]
-            self.assertEqual(told[0][0][:3], wanted)
+            self.assertEqual(got[0][0][:3], wanted)
 
     def test_columns(self):
         at_once([lambda: exec(asked(2000), {})] * 4)

@@ -83,7 +83,7 @@ class Texts(unittest.TestCase):
                 self.assertEqual(self.answer(IPv6Network, text), six)
                 wanted = next((it for it in (four, six) if isinstance(it, str)), None)
                 self.assertEqual(ours(text), wanted)
-                # Of either family it is the cause of the one whose address stands before the slash.
+                # Of either family it is the cause of the one whose address is before the slash.
                 cause = four if six is AddressError else six
                 self.assertEqual(self.answer(ip_network, text), wanted or cause)
 

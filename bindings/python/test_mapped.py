@@ -1,4 +1,4 @@
-"""IPv4-mapped addresses: as they stand, and with ``mapped`` in either form, beside ``ipv4_mapped``
+"""IPv4-mapped addresses: as they are, and with ``mapped`` in either form, compared with ``ipv4_mapped``
 and the numbers of ``ipaddress``."""
 
 import array
@@ -15,7 +15,7 @@ import ipnetwork
 from ipnetwork import AddressSet, AddressSetBuilder, PrefixTable, Table, ip_network, unmapped
 
 DENIED = [ip_network("10.0.0.0/8"), ip_network("10.1.0.0/16"), ip_network("2001:db8::/32")]
-#: What a socket of both families tells of an IPv4 peer, and what stands beside such addresses.
+#: What a socket of both families reports of an IPv4 peer, and what is next to such addresses.
 TEXTS = [
     "::ffff:10.1.2.3",
     "::ffff:10.2.0.0",
@@ -65,7 +65,7 @@ def has(network, asked):
 
 
 def member(asked, networks, mapped):
-    """Whether a network of ``ipaddress`` is in the set of these: each address as it stands or, with
+    """Whether a network of ``ipaddress`` is in the set of these: each address as it is or, with
     ``mapped``, in one of its forms."""
     mapped = mapped and asked.version == 6
     return covered(asked, [each for each in networks if mapped or each.version == asked.version])
@@ -86,7 +86,7 @@ def longest(asked, networks, mapped):
 
 
 def drawn(rng):
-    """A network of ``ipaddress``: of IPv4, IPv4-mapped, with all of these, or beside them."""
+    """A network of ``ipaddress``: of IPv4, IPv4-mapped, with all of these, or next to them."""
     number = 0x0A000000 | rng.choice((0, 0, 0x800000)) | rng.getrandbits(5)
     prefix = 32 - rng.choice((0, 0, 1, 2, 3, 4, 5, 23, 24, 32))
     kind = rng.randrange(6)
@@ -112,7 +112,7 @@ def in_parts(rng):
 
 
 class EitherForm(unittest.TestCase):
-    """Random sets and tables beside the sentence about ``mapped``, over networks of ``ipaddress``."""
+    """Random sets and tables compared with the sentence about ``mapped``, over networks of ``ipaddress``."""
 
     def test_sets(self):
         rng = random.Random(931)
@@ -130,8 +130,8 @@ class EitherForm(unittest.TestCase):
                 for which, mapped in ((plain, False), (either, True)):
                     wanted = member(network, networks, mapped)
                     own = ipnetwork.from_ipaddress(network)
-                    told = network in which, own in which, which.covers(network), which.covers(own)
-                    self.assertEqual(told, (wanted,) * 4, (network, which))
+                    got = network in which, own in which, which.covers(network), which.covers(own)
+                    self.assertEqual(got, (wanted,) * 4, (network, which))
                     seen[mapped, wanted] += 1
                 # The switch only adds members.
                 self.assertLessEqual(network in plain, network in either)
@@ -226,7 +226,7 @@ class Mapped(unittest.TestCase):
     def test_texts(self):
         sentence = (
             "With ``mapped``, what is said of either form counts: an IPv4-mapped IPv6 address is a member if the IPv4 "
-            "address, or the IPv6 address as it stands, is one; its longest network is that of the IPv4 address, and if "
+            "address, or the IPv6 address itself, is one; its longest network is that of the IPv4 address, and if "
             "there is none that of the IPv6 address; and so for a network within ::ffff:0:0/96."
         )
         for of in (ipnetwork, AddressSet, AddressSetBuilder, Table, PrefixTable):

@@ -168,8 +168,8 @@ def used(call, turns):
 
 def memory_in_use():
     """The bytes of memory that the process has, as Linux tells them."""
-    with open("/proc/self/statm") as told:
-        return int(told.read().split()[1]) * 4096
+    with open("/proc/self/statm") as file:
+        return int(file.read().split()[1]) * 4096
 
 
 class Memory(unittest.TestCase):

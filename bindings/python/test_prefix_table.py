@@ -1,4 +1,4 @@
-"""The mapping from networks to values, beside a ``dict`` and a look at each of its networks; the
+"""The mapping from networks to values, compared with a ``dict`` and a look at each of its networks; the
 values of a ``Table``."""
 
 import array
@@ -83,7 +83,7 @@ class Mapping(unittest.TestCase):
             self.assertEqual(table.get(network.to_ipaddress().network, "none"), exact)
             self.assertIs(network in table, exact != "none")
 
-    def test_beside_dict(self):
+    def test_compared_with_dict(self):
         rng = random.Random(60)
         for window in WINDOWS:
             for _ in range(6):
@@ -284,12 +284,12 @@ class Mapping(unittest.TestCase):
         def ask():
             while threads[0].is_alive() and not errors:
                 try:
-                    told = {table[asked], table.get(asked), table.longest(asked)[1]}
-                    told.update(table.join([asked]))
+                    got = {table[asked], table.get(asked), table.longest(asked)[1]}
+                    got.update(table.join([asked]))
                 except (LookupError, TypeError) as error:
                     errors.append(error)
                 else:
-                    errors.extend(told - {8, 16})
+                    errors.extend(got - {8, 16})
 
         before = sys.getswitchinterval()
         sys.setswitchinterval(1e-6)
@@ -334,17 +334,17 @@ class Joined(unittest.TestCase):
         numbers = array.array("q", [7, 3]).tobytes()
         blocks = b"".join(ip_network(text)._row for text in ("10.0.0.0/8", "10.1.0.0/16"))
         core = ipnetwork._core
-        ranges, beside, index = core.ranges(4, blocks, numbers)
+        ranges, range_numbers, index = core.ranges(4, blocks, numbers)
         wanted = ("10.0.0.0", "10.1.0.0", "10.2.0.0", "11.0.0.0")
         self.assertEqual(ranges, b"".join(ip_network(text)._row for text in wanted))
-        self.assertEqual(memoryview(beside).cast("q").tolist(), [7, 3, 7, -1])
+        self.assertEqual(memoryview(range_numbers).cast("q").tolist(), [7, 3, 7, -1])
         self.assertEqual(index, b"")
         # The last address of all has none after it; a range is cut twice where one block ends and another begins.
         blocks = b"".join(ip_network(text)._row for text in ("::/1", "8000::/1"))
-        ranges, beside, _ = core.ranges(6, blocks, numbers)
+        ranges, range_numbers, _ = core.ranges(6, blocks, numbers)
         wanted = ("::", "8000::", "8000::")
         self.assertEqual(ranges, b"".join(ip_network(text)._row for text in wanted))
-        self.assertEqual(memoryview(beside).cast("q").tolist(), [7, 3, 3])
+        self.assertEqual(memoryview(range_numbers).cast("q").tolist(), [7, 3, 3])
         self.assertEqual(core.ranges(4, b"", b""), (b"", b"", b""))
         with self.assertRaises(ValueError):
             core.ranges(4, bytes(10), bytes(8))

@@ -1,4 +1,4 @@
-"""Sets of addresses beside Python's own ``set`` of the same addresses."""
+"""Sets of addresses compared with Python's own ``set`` of the same addresses."""
 
 import copy
 import ipaddress
@@ -66,7 +66,7 @@ def sets(rng, window, sizes):
 
 
 class Operations(unittest.TestCase):
-    def test_beside_set(self):
+    def test_compared_with_set(self):
         rng = random.Random(53)
         signs = [operator.or_, operator.and_, operator.sub, operator.xor]
         names = ["union", "intersection", "difference", "symmetric_difference"]
@@ -110,7 +110,7 @@ class Operations(unittest.TestCase):
                     self.assertIs(one >= AddressSet([network]), wanted)
 
     def test_many(self):
-        # Sets and tables of many networks, which are asked by an index: beside a look at each of
+        # Sets and tables of many networks, which are asked by an index: compared with a look at each of
         # them, by arithmetic.
         rng = random.Random(67)
         for kind, address, base in WINDOWS:
@@ -172,18 +172,18 @@ class Operations(unittest.TestCase):
         networks = [ip_network(f"10.{part}.{host}.0/25") for part in range(9) for host in range(99)]
         column = [ip_network(f"10.{part}.3.128/25")[part % 2 - 1] for part in range(20)] * 20
         for _ in range(20):
-            asked, table, told = AddressSet(networks), Table(networks), []
+            asked, table, answers = AddressSet(networks), Table(networks), []
 
             def ask():
                 has = asked.contains_column(column), column[0] in asked
-                told.append((has, table.find_column(column), table.find(column[0])))
+                answers.append((has, table.find_column(column), table.find(column[0])))
 
             threads = [threading.Thread(target=ask) for _ in range(6)]
             for thread in threads:
                 thread.start()
             for thread in threads:
                 thread.join()
-            self.assertEqual((len(told), told.count(told[0])), (6, 6))
+            self.assertEqual((len(answers), answers.count(answers[0])), (6, 6))
 
     def test_lists_as_columns(self):
         tens = AddressSet([ip_network("10.0.0.0/8")])
@@ -265,15 +265,15 @@ class Ranges(unittest.TestCase):
         for window in WINDOWS:
             for count in range(20):
                 ((one, has),) = sets(rng, window, (count,))
-                told = list(one.ranges())
+                answers = list(one.ranges())
                 numbers = [
-                    number for low, high in told for number in range(int(low), int(high) + 1)
+                    number for low, high in answers for number in range(int(low), int(high) + 1)
                 ]
                 self.assertEqual(numbers, sorted(map(int, has)))
-                for (_, high), (low, _) in zip(told, told[1:]):
+                for (_, high), (low, _) in zip(answers, answers[1:]):
                     self.assertGreater(int(low), int(high) + 1)
-                rng.shuffle(told)
-                self.assertEqual(AddressSet.of_ranges(told), one)
+                rng.shuffle(answers)
+                self.assertEqual(AddressSet.of_ranges(answers), one)
 
     def test_as_networks(self):
         rng = random.Random(57)

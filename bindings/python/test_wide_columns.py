@@ -1,4 +1,4 @@
-"""Columns whose offsets have 64 bits, beside those of 32 bits; and which numbers offsets are."""
+"""Columns whose offsets have 64 bits, compared with those of 32 bits; and which numbers offsets are."""
 
 import array
 import faulthandler
@@ -144,9 +144,9 @@ class Wide(unittest.TestCase):
                 texts, starts = printed(given)
                 wide, places = printed(given, 64)
                 self.assertEqual((wide, len(places)), (texts, 8 * (count + 1)))
-                told = memoryview(places).cast("q")
-                self.assertEqual(told.tolist(), memoryview(starts).cast("I").tolist())
-                self.assertEqual(read(wide, told), (given, bytes(count)))
+                got = memoryview(places).cast("q")
+                self.assertEqual(got.tolist(), memoryview(starts).cast("I").tolist())
+                self.assertEqual(read(wide, got), (given, bytes(count)))
         self.assertEqual(IPv6Network.print_column(given, offset_bits=32), (texts, starts))
         with self.assertRaises(PrefixError):
             IPv4Network.print_column(bytes(5 * 65536) + bytes(4) + b"\x21", 64)

@@ -22,7 +22,7 @@ from ipnetwork.columns import is_member
 PARTS = 8
 
 
-def made_up_log(lines: int) -> pandas.DataFrame:
+def random_log(lines: int) -> pandas.DataFrame:
     """A log with addresses of both families, and one text in fifty that is no address."""
     rng = random.Random(30)
     texts = []
@@ -36,7 +36,7 @@ def made_up_log(lines: int) -> pandas.DataFrame:
     return pandas.DataFrame({"line": range(lines), "address": texts})
 
 
-def made_up_list() -> AddressSet:
+def random_list() -> AddressSet:
     """A hundred networks within those of the log."""
     rng = random.Random(31)
     fours = [f"10.{rng.getrandbits(8)}.{rng.getrandbits(8)}.0/{rng.choice((16, 20, 24))}" for _ in range(50)]
@@ -59,7 +59,7 @@ def by_workers(client: Client, log: pandas.DataFrame, allowed: AddressSet) -> pa
 
 def main() -> None:
     lines = int(sys.argv[1]) if len(sys.argv) > 1 else 100_000
-    log, allowed = made_up_log(lines), made_up_list()
+    log, allowed = random_log(lines), random_list()
     if len(sys.argv) > 2:
         with Client(sys.argv[2]) as client:
             own, workers = by_workers(client, log, allowed), len(client.scheduler_info()["workers"])

@@ -27,7 +27,7 @@ past a list of denied networks. So make a set or a table with ``mapped=True``, o
 ``unmapped(address)`` too.
 
 With ``mapped``, what is said of either form counts: an IPv4-mapped IPv6 address is a member if the
-IPv4 address, or the IPv6 address as it stands, is one; its longest network is that of the IPv4
+IPv4 address, or the IPv6 address itself, is one; its longest network is that of the IPv4
 address, and if there is none that of the IPv6 address; and so for a network within ::ffff:0:0/96.
 
 >>> IPv6Address("::ffff:10.1.9.32") in AddressSet([network], mapped=True)

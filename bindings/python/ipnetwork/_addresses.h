@@ -16,7 +16,7 @@ typedef struct {
     PyObject *v4_class, *v6_class;                     /* the classes given to `register` */
     PyObject *v4_address, *v6_address, *base_network;  /* those of ipaddress */
     PyObject *make_error, *shown, *map_of, *range_of;
-    PyObject *name_ip, *name_scope, *sixty_four, *zero, *one;
+    PyObject *name_ip, *name_scope, *zero, *one;
     PyObject *masks[2][129];  /* those that were asked for, by prefix length */
     int plain;                /* whether an address of ipaddress is only its number: see `is_plain` */
 } State;
@@ -40,7 +40,7 @@ static int is_made(const Network *self) {
     return 0;
 }
 
-static PyObject *again(PyObject *told) { Py_INCREF(told); return told; }
+static PyObject *again(PyObject *value) { Py_INCREF(value); return value; }
 
 /* The object kept at a place, or NULL. Each place is filled once, and by one thread only. */
 static PyObject *kept_at(PyObject **place) { return __atomic_load_n(place, __ATOMIC_ACQUIRE); }
@@ -80,45 +80,55 @@ static int answered(ipnetwork_fault fault) {
 
 /* The number as 16 octets, the highest first; 0 with OverflowError if it is negative or has more than 128
  * bits. */
-static int octets_of_number(State *state, PyObject *number, uint8_t octets[16]) {
-    unsigned long long low = PyLong_AsUnsignedLongLongMask(number), high;
+static int octets_of_number(PyObject *number, uint8_t octets[16]) {
+#if defined(Py_LIMITED_API)
+    unsigned long long low = PyLong_AsUnsignedLongLongMask(number);
     if (low == (unsigned long long)-1 && PyErr_Occurred()) return 0;
-    PyObject *shifted = PyNumber_Rshift(number, state->sixty_four);
-    if (shifted == NULL) return 0;
-    high = PyLong_AsUnsignedLongLong(shifted);
-    Py_DECREF(shifted);
-    if (high == (unsigned long long)-1 && PyErr_Occurred()) return 0;
+    PyObject *width = PyLong_FromLong(64), *shifted = width == NULL ? NULL : PyNumber_Rshift(number, width);
+    unsigned long long high = shifted == NULL ? 0 : PyLong_AsUnsignedLongLong(shifted);
+    Py_XDECREF(width), Py_XDECREF(shifted);
+    if (shifted == NULL || (high == (unsigned long long)-1 && PyErr_Occurred())) return 0;
     for (int place = 7; place >= 0; place--, high >>= 8, low >>= 8) {
         octets[place] = (uint8_t)high;
         octets[place + 8] = (uint8_t)low;
     }
     return 1;
+#elif PY_VERSION_HEX >= 0x030D0000
+    const int how = Py_ASNATIVEBYTES_BIG_ENDIAN | Py_ASNATIVEBYTES_UNSIGNED_BUFFER | Py_ASNATIVEBYTES_REJECT_NEGATIVE;
+    Py_ssize_t needed = PyLong_AsNativeBytes(number, octets, 16, how);
+    if (needed > 16) PyErr_SetString(PyExc_OverflowError, "the number of an address has at most 128 bits");
+    return 0 <= needed && needed <= 16;
+#else
+    if (!PyLong_Check(number)) return PyErr_SetString(PyExc_TypeError, "the number of an address is an int"), 0;
+    return _PyLong_AsByteArray((PyLongObject *)number, octets, 16, 0, 0) == 0;
+#endif
 }
 
-static uint64_t word_at(const uint8_t *octets) {
-    uint64_t word = 0;
-    for (int place = 0; place < 8; place++) word = word << 8 | octets[place];
-    return word;
-}
-
-/* A number times 2^64 plus another one; releases the first. */
-static PyObject *number_on(State *state, PyObject *upper, uint64_t low) {
-    PyObject *lower = upper == NULL ? NULL : PyLong_FromUnsignedLongLong(low), *number = NULL;
-    PyObject *shifted = lower == NULL ? NULL : PyNumber_Lshift(upper, state->sixty_four);
+#if defined(Py_LIMITED_API)
+/* A number times 2^64 plus that of these 8 octets; releases the first. */
+static PyObject *number_on(PyObject *upper, const uint8_t *octets) {
+    uint64_t low = 0;
+    for (int place = 0; place < 8; place++) low = low << 8 | octets[place];
+    PyObject *lower = upper == NULL ? NULL : PyLong_FromUnsignedLongLong(low), *width = NULL, *shifted = NULL, *number = NULL;
+    if (lower != NULL && (width = PyLong_FromLong(64)) != NULL) shifted = PyNumber_Lshift(upper, width);
     if (shifted != NULL) number = PyNumber_Or(shifted, lower);
-    Py_XDECREF(upper), Py_XDECREF(lower), Py_XDECREF(shifted);
+    Py_XDECREF(upper), Py_XDECREF(lower), Py_XDECREF(width), Py_XDECREF(shifted);
     return number;
 }
+#endif
 
 /* The number of 4, 16 or 17 octets, the highest first. */
-static PyObject *number_of_octets(State *state, const uint8_t *octets, Py_ssize_t count) {
+static PyObject *number_of_octets(const uint8_t *octets, Py_ssize_t count) {
     if (count == 4)
         return PyLong_FromUnsignedLong((unsigned long)octets[0] << 24 | (unsigned long)octets[1] << 16 | (unsigned long)octets[2] << 8 | octets[3]);
-    uint64_t high = word_at(octets + count - 16), low = word_at(octets + count - 8);
-    if (count == 17 && octets[0] != 0)
-        return number_on(state, number_on(state, PyLong_FromLong(octets[0]), high), low);
-    if (high == 0) return PyLong_FromUnsignedLongLong(low);
-    return number_on(state, PyLong_FromUnsignedLongLong(high), low);
+#if defined(Py_LIMITED_API)
+    PyObject *upper = number_on(PyLong_FromLong(count == 17 ? octets[0] : 0), octets + count - 16);
+    return number_on(upper, octets + count - 8);
+#elif PY_VERSION_HEX >= 0x030D0000
+    return PyLong_FromUnsignedNativeBytes(octets, (size_t)count, Py_ASNATIVEBYTES_BIG_ENDIAN);
+#else
+    return _PyLong_FromByteArray(octets, (size_t)count, 0, 0);
+#endif
 }
 
 /* Whether the slots of an address are its number, and of IPv6 its zone, and nothing else: then one is made by setting
@@ -134,7 +144,7 @@ static int is_plain(PyObject *type, const char *slots) {
 
 /* The address of ipaddress with these 4 or 16 octets. */
 static PyObject *address_object(State *state, const uint8_t *octets, uint8_t length) {
-    PyObject *number = number_of_octets(state, octets, length), *address = NULL;
+    PyObject *number = number_of_octets(octets, length), *address = NULL;
     PyObject *type = length == 4 ? state->v4_address : state->v6_address;
     if (number == NULL) return NULL;
     if (!state->plain) {
@@ -153,7 +163,8 @@ static PyObject *address_object(State *state, const uint8_t *octets, uint8_t len
 enum { IS_ADDRESS, NO_ADDRESS, HAS_RAISED };
 
 static int address_of(State *state, PyObject *object, ipnetwork_address *address) {
-    if (PyObject_TypeCheck(object, (PyTypeObject *)state->v4_address)) {
+    int is_six = Py_TYPE(object) == (PyTypeObject *)state->v6_address;
+    if (!is_six && PyObject_TypeCheck(object, (PyTypeObject *)state->v4_address)) {
         PyObject *number = PyObject_GetAttr(object, state->name_ip);
         if (number == NULL) return HAS_RAISED;
         unsigned long bits = PyLong_AsUnsignedLong(number);
@@ -163,10 +174,10 @@ static int address_of(State *state, PyObject *object, ipnetwork_address *address
         address->length = 4;
         return IS_ADDRESS;
     }
-    if (PyObject_TypeCheck(object, (PyTypeObject *)state->v6_address)) {
+    if (is_six || PyObject_TypeCheck(object, (PyTypeObject *)state->v6_address)) {
         PyObject *number = PyObject_GetAttr(object, state->name_ip);
         if (number == NULL) return HAS_RAISED;
-        int whole = octets_of_number(state, number, address->octets);
+        int whole = octets_of_number(number, address->octets);
         Py_DECREF(number);
         address->length = 16;
         return whole ? IS_ADDRESS : HAS_RAISED;

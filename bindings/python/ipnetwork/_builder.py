@@ -69,7 +69,7 @@ class AddressSetBuilder:
 
     The option ``mapped`` is that of the sets that it builds; ``update`` and ``difference_update``
     with a set that has it add it. With ``mapped``, what is said of either form counts: an
-    IPv4-mapped IPv6 address is a member if the IPv4 address, or the IPv6 address as it stands, is
+    IPv4-mapped IPv6 address is a member if the IPv4 address, or the IPv6 address itself, is
     one; its longest network is that of the IPv4 address, and if there is none that of the IPv6
     address; and so for a network within ::ffff:0:0/96.
 

@@ -134,7 +134,7 @@ def longest_key(
 
 def set_contains(search: tuple[bytes, bytes, bytes, bytes, bool], asked: object) -> bool:
     """Whether a set, given by the bytes of its blocks, has an address, or each of a network as it
-    stands."""
+    is."""
     if search[4] and isinstance(asked, IPv6Address):
         address = unmapped(asked)
         if address is not asked and set_contains(search, address):

@@ -38,11 +38,11 @@ def _declare(library: ctypes.CDLL, name: str, arguments: list[type]) -> None:
 
 def _load() -> ctypes.CDLL:
     name = NAMES.get(sys.platform, "libipnetwork_c.so")
-    beside = os.path.join(os.path.dirname(os.path.abspath(__file__)), name)
-    path = os.environ.get("IPNETWORK_LIBRARY", beside)
+    adjacent = os.path.join(os.path.dirname(os.path.abspath(__file__)), name)
+    path = os.environ.get("IPNETWORK_LIBRARY", adjacent)
     if not os.path.exists(path):
         raise ImportError(
-            f"the library is not there, neither as _native beside {__file__} nor as {path}: "
+            f"the library is not there, neither as _native next to {__file__} nor as {path}: "
             "install the package by `pip install ./bindings/python`, after `rt lib` in "
             f"crates/ipnetwork_c or with cargo, or set IPNETWORK_LIBRARY to the path of {name}, as "
             "bindings/README.md says"

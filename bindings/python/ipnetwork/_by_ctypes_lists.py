@@ -197,15 +197,15 @@ def ranges(version: int, blocks: bytes, numbers: bytes) -> tuple[bytes, bytes, b
     step, made = _step(version), ctypes.c_size_t()
     count = len(blocks) // step
     if len(numbers) // 8 < count:
-        raise ValueError("there is not a number beside each block")
+        raise ValueError("there is not a number for each block")
     structs = ctypes.create_string_buffer(2 * count * step)
-    beside = (ctypes.c_size_t * (2 * count))()
+    range_numbers = (ctypes.c_size_t * (2 * count))()
     call = getattr(library, f"ipnetwork_v{version}_ranges_make_numbered")
     near = index(version, blocks)
     given = blocks, count, numbers, count, near, len(near) // 4
-    answered(call(*given, structs, 2 * count, beside, 2 * count, ctypes.byref(made)))
+    answered(call(*given, structs, 2 * count, range_numbers, 2 * count, ctypes.byref(made)))
     front = structs.raw[: made.value * step]
-    return front, bytes(beside)[: made.value * 8], index(version, front)
+    return front, bytes(range_numbers)[: made.value * 8], index(version, front)
 
 
 def table_find_column(
@@ -214,16 +214,16 @@ def table_find_column(
     """For each address of a column the number of the longest network that has it, or -1, as numbers
     of 64 bits."""
     column = _column(addresses)
-    told = array.array("q", [-1]) * (len(column) // ADDRESS)
+    answers = array.array("q", [-1]) * (len(column) // ADDRESS)
     for width, (structs, numbers, index) in ((4, search[:3]), (16, search[3:6])):
         rows, packed = _family(column, width)
         for row, number in zip(rows, numbers_packed(structs, numbers, index, packed, width)):
-            told[row] = number
+            answers[row] = number
     if search[6]:
         rows, packed = _mapped(column)
         for row, number in zip(rows, numbers_packed(*search[:3], packed, 4)):
-            told[row] = number if number >= 0 else told[row]
-    return bytearray(told.tobytes())
+            answers[row] = number if number >= 0 else answers[row]
+    return bytearray(answers.tobytes())
 
 
 class _OtherRow(Exception):
@@ -312,17 +312,17 @@ def _read_part(
     """Reads texts into as many rows and faults; returns the fault of the whole call."""
     starts, count = len(offsets), max(len(offsets) - 1, 0)
     text, step = bytes(texts), {4: 5, 6: 17, 0: ADDRESS}[kind]
-    room, told = (ctypes.c_ubyte * (count * step))(), (ctypes.c_ubyte * count)()
+    room, codes = (ctypes.c_ubyte * (count * step))(), (ctypes.c_ubyte * count)()
     if len(text) > 0x7FFFFFFF:
         name = f"v{kind}_read" if kind else "address_read"
-        told[0] = getattr(library, f"ipnetwork_{name}")(text, len(text), room)
+        codes[0] = getattr(library, f"ipnetwork_{name}")(text, len(text), room)
         fault = 0
     else:
         name = f"v{kind}_read_column" if kind else "address_read_column"
         where = (ctypes.c_uint32 * starts)(*offsets)
         call = getattr(library, f"ipnetwork_{name}")
-        fault = call(text, len(text), where, starts, room, count, told, count)
-    rows[:], faults[:] = memoryview(room).cast("B"), memoryview(told).cast("B")
+        fault = call(text, len(text), where, starts, room, count, codes, count)
+    rows[:], faults[:] = memoryview(room).cast("B"), memoryview(codes).cast("B")
     return fault
 
 

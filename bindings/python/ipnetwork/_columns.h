@@ -271,7 +271,7 @@ static ipnetwork_fault set_covers(const Set *set, const ipnetwork_ip *asked, uin
     return ipnetwork_v6_is_subnet_of(&asked->v6, (const ipnetwork_v6 *)block, answer);
 }
 
-/* set_contains(search, asked): an address, or each address of a network, as it stands. */
+/* set_contains(search, asked): an address, or each address of a network, as it is. */
 static PyObject *set_contains(PyObject *module, PyObject *arguments) {
     State *state = PyModule_GetState(module);
     PyObject *search, *given;

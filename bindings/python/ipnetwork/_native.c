@@ -1,6 +1,6 @@
 /* The core of the package as an extension of CPython: the networks of both families, each of which holds the struct of the
  * library, and the calls over columns. It has no rule of its own about texts, prefix lengths or members: each answer is one
- * of the library's. What a network has told once is kept.
+ * of the library's. What a network has answered once is kept.
  *
  * Each interpreter of a process has a module of its own, with its types and all that it keeps in
  * the module's state, so that several interpreters may import it and run at the same time.
@@ -80,7 +80,7 @@ static PyObject *subnet_at(PyObject *module, PyObject *arguments) {
     uint8_t prefix, n[16], row[17];
     if (!PyArg_ParseTuple(arguments, "O!bO", state->network_type, &object, &prefix, &number)) return NULL;
     const ipnetwork_ip *held = &((Network *)object)->held;
-    if (!is_made((Network *)object) || !octets_of_number(state, number, n)) return NULL;
+    if (!is_made((Network *)object) || !octets_of_number(number, n)) return NULL;
     static const uint8_t zeros[12];
     ipnetwork_fault fault = IPNETWORK_NO_MEMBER;
     if (held->family == 6) fault = ipnetwork_v6_subnet_at(&held->v6, prefix, n, (ipnetwork_v6 *)row);
@@ -184,7 +184,7 @@ static PyMethodDef calls[] = {
                "The index by which such blocks are searched: empty if there are only few.")},
     {"set_contains", set_contains, METH_VARARGS,
      OF_MODULE("set_contains", "search, asked",
-               "Whether a set has an address, or each address of a network, as it stands. ``search``\n"
+               "Whether a set has an address, or each address of a network, as it is. ``search``\n"
                "is the IPv4 blocks and their index, the same for IPv6, and whether an IPv4-mapped\n"
                "address is a member in either form.")},
     {"set_contains_column", set_contains_column, METH_VARARGS,
@@ -304,7 +304,6 @@ static int import_into(State *state) {
            && (state->range_of = imported("builtins", "range")) != NULL
            && (state->name_ip = PyUnicode_InternFromString("_ip")) != NULL
            && (state->name_scope = PyUnicode_InternFromString("_scope_id")) != NULL
-           && (state->sixty_four = PyLong_FromLong(64)) != NULL
            && (state->zero = PyLong_FromLong(0)) != NULL
            && (state->one = PyLong_FromLong(1)) != NULL;
 }
@@ -335,7 +334,7 @@ static int execute(PyObject *module) {
 #define EACH_KEPT(DO)                                                                         \
     DO(network_type) DO(v4_type) DO(v6_type) DO(v4_class) DO(v6_class) DO(v4_address)         \
     DO(v6_address) DO(base_network) DO(make_error) DO(shown) DO(map_of) DO(range_of)          \
-    DO(name_ip) DO(name_scope) DO(sixty_four) DO(zero) DO(one)
+    DO(name_ip) DO(name_scope) DO(zero) DO(one)
 
 static int traverse(PyObject *module, visitproc visit, void *arg) {
     State *state = PyModule_GetState(module);

@@ -70,7 +70,7 @@ static const char *bytes_of_text(PyObject *text, Py_ssize_t *length, PyObject **
 
 typedef ipnetwork_fault (*ask_end)(const ipnetwork_ip *, ipnetwork_address *);
 
-static PyObject *told_end(const Network *self, ask_end ask) {
+static PyObject *end_of(const Network *self, ask_end ask) {
     ipnetwork_address address;
     if (!answered(ask(&self->held, &address))) return NULL;
     return address_object(self->state, address.octets, address.length);
@@ -130,9 +130,9 @@ static PyObject *row_of(const ipnetwork_ip *held) {
 static PyObject *get_least(PyObject *object, void *none) {
     (void)none;
     Network *self = (Network *)object;
-    PyObject *told = kept_at(&self->least);
-    if (told != NULL) return again(told);
-    return is_made(self) ? kept(&self->least, told_end(self, ipnetwork_network)) : NULL;
+    PyObject *value = kept_at(&self->least);
+    if (value != NULL) return again(value);
+    return is_made(self) ? kept(&self->least, end_of(self, ipnetwork_network)) : NULL;
 }
 
 /* The networks of one prefix length share their mask. */
@@ -141,15 +141,15 @@ static PyObject *get_mask(PyObject *object, void *none) {
     Network *self = (Network *)object;
     if (!is_made(self)) return NULL;
     PyObject **place = &self->state->masks[self->held.family == 6][prefix_of(&self->held)];
-    PyObject *told = kept_at(place);
-    return told != NULL ? again(told) : kept(place, told_end(self, ipnetwork_mask));
+    PyObject *value = kept_at(place);
+    return value != NULL ? again(value) : kept(place, end_of(self, ipnetwork_mask));
 }
 
 static PyObject *get_ip(PyObject *object, void *none) {
     (void)none;
     Network *self = (Network *)object;
-    PyObject *told = kept_at(&self->ip);
-    if (told != NULL) return again(told);
+    PyObject *value = kept_at(&self->ip);
+    if (value != NULL) return again(value);
     if (!is_made(self)) return NULL;
     return kept(&self->ip, address_object(self->state, octets_of(&self->held), width_of(&self->held)));
 }
@@ -157,9 +157,9 @@ static PyObject *get_ip(PyObject *object, void *none) {
 static PyObject *get_greatest(PyObject *object, void *none) {
     (void)none;
     Network *self = (Network *)object;
-    PyObject *told = kept_at(&self->greatest);
-    if (told != NULL) return again(told);
-    return is_made(self) ? kept(&self->greatest, told_end(self, ipnetwork_broadcast)) : NULL;
+    PyObject *value = kept_at(&self->greatest);
+    if (value != NULL) return again(value);
+    return is_made(self) ? kept(&self->greatest, end_of(self, ipnetwork_broadcast)) : NULL;
 }
 
 static PyObject *get_prefix(PyObject *object, void *none) {
@@ -171,8 +171,8 @@ static PyObject *get_prefix(PyObject *object, void *none) {
 static PyObject *get_size(PyObject *object, void *none) {
     (void)none;
     Network *self = (Network *)object;
-    PyObject *told = kept_at(&self->size);
-    if (told != NULL) return again(told);
+    PyObject *value = kept_at(&self->size);
+    if (value != NULL) return again(value);
     if (!is_made(self)) return NULL;
     if (self->held.family == 4) {
         uint64_t size;
@@ -180,7 +180,7 @@ static PyObject *get_size(PyObject *object, void *none) {
     }
     uint8_t octets[17];
     if (!answered(ipnetwork_v6_size(&self->held.v6, octets))) return NULL;
-    return kept(&self->size, number_of_octets(self->state, octets, 17));
+    return kept(&self->size, number_of_octets(octets, 17));
 }
 
 static PyObject *get_row(PyObject *object, void *none) {
@@ -191,8 +191,8 @@ static PyObject *get_row(PyObject *object, void *none) {
 
 static PyObject *network_text(PyObject *object) {
     Network *self = (Network *)object;
-    PyObject *told = kept_at(&self->text);
-    if (told != NULL) return again(told);
+    PyObject *value = kept_at(&self->text);
+    if (value != NULL) return again(value);
     char buffer[IPNETWORK_V6_TEXT];
     size_t length;
     if (!is_made(self) || !answered(ipnetwork_canonical(&self->held, buffer, sizeof buffer, &length))) return NULL;
@@ -217,8 +217,8 @@ static PyObject *members(Network *self) {
     ipnetwork_address least, greatest;
     if (!is_made(self) || !answered(ipnetwork_network(&self->held, &least))) return NULL;
     if (!answered(ipnetwork_broadcast(&self->held, &greatest))) return NULL;
-    PyObject *low = number_of_octets(state, least.octets, least.length);
-    PyObject *high = number_of_octets(state, greatest.octets, greatest.length);
+    PyObject *low = number_of_octets(least.octets, least.length);
+    PyObject *high = number_of_octets(greatest.octets, greatest.length);
     PyObject *past = high == NULL ? NULL : PyNumber_Add(high, state->one);
     if (low != NULL && past != NULL)
         range = PyObject_CallFunctionObjArgs(state->range_of, low, past, NULL);
@@ -248,7 +248,7 @@ static PyObject *network_nth(PyObject *object, PyObject *index) {
         if (counted == NULL) return NULL;
         number = counted;
     }
-    int whole = octets_of_number(self->state, number, n);
+    int whole = octets_of_number(number, n);
     Py_DECREF(number);
     if (!whole && !PyErr_ExceptionMatches(PyExc_OverflowError)) return NULL;
     PyErr_Clear();

@@ -74,7 +74,7 @@ class _Network(_Base[Address]):
     @property
     def reverse_pointer(self) -> str:
         """The name that ``ipaddress`` gives to the network without host bits, in which the prefix
-        length stands too. The name of an address in the DNS is ``network.ip.reverse_pointer``.
+        length is too. The name of an address in the DNS is ``network.ip.reverse_pointer``.
 
         >>> IPv4Network("192.0.2.128/25").reverse_pointer
         '128/25.2.0.192.in-addr.arpa'

@@ -51,7 +51,7 @@ class AddressSet:
     ``AddressSetBuilder`` makes a set step by step.
 
     With ``mapped``, what is said of either form counts: an IPv4-mapped IPv6 address is a member if
-    the IPv4 address, or the IPv6 address as it stands, is one; its longest network is that of the
+    the IPv4 address, or the IPv6 address itself, is one; its longest network is that of the
     IPv4 address, and if there is none that of the IPv6 address; and so for a network within
     ::ffff:0:0/96. Without it, ``::ffff:10.1.9.32``, as a socket for both families reports an IPv4
     peer, is in no set of IPv4 networks. The option changes neither the networks of a set nor which
@@ -187,7 +187,7 @@ class AddressSet:
 
     def _operator(self, operation: str, other: object, turned: bool = False) -> AddressSet:
         """The result of an operator with another set, or with another iterable of networks, which
-        stands before the operator if it is ``turned``."""
+        is before the operator if it is ``turned``."""
         if isinstance(other, SINGLE) or not isinstance(other, Iterable):
             return NotImplemented
         one, another = self, _as_set(other)

@@ -36,20 +36,20 @@ static PyObject *front_of(PyObject *room, size_t length) {
 }
 
 /* The ranges of a table in these rooms, and their index, as a tuple. */
-static PyObject *ranges_in(const searched_list *table, const char *numbers, PyObject *ranges, PyObject *beside) {
+static PyObject *ranges_in(const searched_list *table, const char *numbers, PyObject *ranges, PyObject *range_numbers) {
     size_t step = table->width + 1, made = 0;
     uint8_t *structs = (uint8_t *)PyByteArray_AsString(ranges);
-    int64_t *told = (int64_t *)PyByteArray_AsString(beside);
-    PyObject *index = NULL, *front = NULL, *front_beside = NULL, *all = NULL;
+    int64_t *made_numbers = (int64_t *)PyByteArray_AsString(range_numbers);
+    PyObject *index = NULL, *front = NULL, *front_numbers = NULL, *all = NULL;
     ipnetwork_fault fault;
     Py_BEGIN_ALLOW_THREADS
-    fault = table_ranges(table, (const int64_t *)numbers, structs, told, &made);
+    fault = table_ranges(table, (const int64_t *)numbers, structs, made_numbers, &made);
     Py_END_ALLOW_THREADS
     if (answered(fault) && (index = list_index_object(table->width, (const char *)structs, made)) != NULL
         && (front = front_of(ranges, made * step)) != NULL
-        && (front_beside = front_of(beside, made * sizeof(int64_t))) != NULL)
-        all = PyTuple_Pack(3, front, front_beside, index);
-    Py_XDECREF(front), Py_XDECREF(front_beside), Py_XDECREF(index);
+        && (front_numbers = front_of(range_numbers, made * sizeof(int64_t))) != NULL)
+        all = PyTuple_Pack(3, front, front_numbers, index);
+    Py_XDECREF(front), Py_XDECREF(front_numbers), Py_XDECREF(index);
     return all;
 }
 
@@ -64,17 +64,17 @@ static PyObject *ranges(PyObject *module, PyObject *arguments) {
     size_t width = version == 4 ? 4 : 16, step = width + 1;
     searched_list table = {width, (const uint8_t *)blocks, (size_t)length / step, NULL, 0};
     if ((size_t)numbers_length / sizeof(int64_t) < table.count)
-        return PyErr_SetString(PyExc_ValueError, "there is not a number beside each block"), NULL;
+        return PyErr_SetString(PyExc_ValueError, "there is not a number for each block"), NULL;
     PyObject *structs = PyByteArray_FromStringAndSize(NULL, (Py_ssize_t)(2 * table.count * step)), *all = NULL;
     /* One more than the maximum, because empty bytes may be at any address, and numbers must be aligned. */
-    PyObject *beside = PyByteArray_FromStringAndSize(NULL, (Py_ssize_t)((2 * table.count + 1) * sizeof(int64_t)));
+    PyObject *range_numbers = PyByteArray_FromStringAndSize(NULL, (Py_ssize_t)((2 * table.count + 1) * sizeof(int64_t)));
     PyObject *index = list_index_object(width, blocks, table.count);
-    if (structs != NULL && beside != NULL && index != NULL) {
+    if (structs != NULL && range_numbers != NULL && index != NULL) {
         table.index = (const uint32_t *)PyBytes_AsString(index);
         table.index_length = (size_t)PyBytes_Size(index) / sizeof(uint32_t);
-        all = ranges_in(&table, numbers, structs, beside);
+        all = ranges_in(&table, numbers, structs, range_numbers);
     }
-    Py_XDECREF(structs), Py_XDECREF(beside), Py_XDECREF(index);
+    Py_XDECREF(structs), Py_XDECREF(range_numbers), Py_XDECREF(index);
     return all;
 }
 
@@ -97,7 +97,7 @@ static int parse_table(PyObject *given, Table *table) {
     table->four_numbers = (const int64_t *)four_numbers, table->six_numbers = (const int64_t *)six_numbers;
     if ((size_t)lengths[0] / sizeof(int64_t) >= table->fours.count && (size_t)lengths[1] / sizeof(int64_t) >= table->sixes.count)
         return 1;
-    PyErr_SetString(PyExc_ValueError, "there is not a number beside each range");
+    PyErr_SetString(PyExc_ValueError, "there is not a number for each range");
     return 0;
 }
 
@@ -147,20 +147,20 @@ static inline void ask(Asked *asked, size_t row, const uint8_t *octets, size_t w
 /* Writes to these rows the numbers of the longest networks that have their addresses, or -1, which is
  * IPNETWORK_NO_PLACE as a place. */
 static ipnetwork_fault numbers_of(const searched_list *ranges, const int64_t *numbers, const Asked *asked,
-                                  int64_t *told) {
+                                  int64_t *answers) {
     size_t places[AT_ONCE], count = asked->count;
     uint8_t faults[AT_ONCE];
     memset(places, 0xff, sizeof places);
-    const size_t *beside = (const size_t *)numbers;
+    const size_t *range_numbers = (const size_t *)numbers;
     ipnetwork_fault fault =
         ranges->width == 4
-            ? ipnetwork_v4_ranges_find_column((const ipnetwork_v4 *)ranges->structs, ranges->count, beside, ranges->count,
+            ? ipnetwork_v4_ranges_find_column((const ipnetwork_v4 *)ranges->structs, ranges->count, range_numbers, ranges->count,
                                               ranges->index, ranges->index_length, asked->octets, count, places, count,
                                               faults, count)
-            : ipnetwork_v6_ranges_find_column((const ipnetwork_v6 *)ranges->structs, ranges->count, beside, ranges->count,
+            : ipnetwork_v6_ranges_find_column((const ipnetwork_v6 *)ranges->structs, ranges->count, range_numbers, ranges->count,
                                               ranges->index, ranges->index_length, asked->octets, count, places, count,
                                               faults, count);
-    for (size_t at = 0; at < count; at++) told[asked->rows[at]] = (int64_t)places[at];
+    for (size_t at = 0; at < count; at++) answers[asked->rows[at]] = (int64_t)places[at];
     return fault;
 }
 
@@ -169,11 +169,11 @@ static ipnetwork_fault numbers_of(const searched_list *ranges, const int64_t *nu
  * row, if a length is neither 0, 4 nor 16. */
 __attribute__((always_inline)) static inline ipnetwork_fault by_family(const ipnetwork_address *addresses, size_t count,
                                                                        int mapped, Asked *fours, Asked *sixes,
-                                                                       int64_t *told, size_t *row) {
+                                                                       int64_t *answers, size_t *row) {
     uint8_t octets[4];
     for (*row = 0; *row < count; ++*row) {
         const ipnetwork_address *address = &addresses[*row];
-        told[*row] = -1;
+        answers[*row] = -1;
         if (address->length == 4) ask(fours, *row, address->octets, 4);
         else if (address->length == 16 && mapped && ipnetwork_v6_unmapped(address->octets, octets) == IPNETWORK_OK)
             ask(fours, *row, octets, 4);
@@ -186,18 +186,18 @@ __attribute__((always_inline)) static inline ipnetwork_fault by_family(const ipn
 /* The number of the longest network of each row, for at most AT_ONCE rows, or -1, as for a row without an
  * address. */
 static ipnetwork_fault table_has_rows(const Table *table, const ipnetwork_address *addresses, size_t count,
-                                      int64_t *told, size_t *row) {
+                                      int64_t *answers, size_t *row) {
     Asked fours, sixes;
     fours.count = sixes.count = 0;
-    ipnetwork_fault fault = table->mapped ? by_family(addresses, count, 1, &fours, &sixes, told, row)
-                                          : by_family(addresses, count, 0, &fours, &sixes, told, row);
-    if (fault == IPNETWORK_OK) fault = numbers_of(&table->fours, table->four_numbers, &fours, told);
+    ipnetwork_fault fault = table->mapped ? by_family(addresses, count, 1, &fours, &sixes, answers, row)
+                                          : by_family(addresses, count, 0, &fours, &sixes, answers, row);
+    if (fault == IPNETWORK_OK) fault = numbers_of(&table->fours, table->four_numbers, &fours, answers);
     if (fault != IPNETWORK_OK) return fault;
     for (size_t at = 0; table->mapped && at < fours.count; at++) {
         const ipnetwork_address *address = &addresses[fours.rows[at]];
-        if (told[fours.rows[at]] < 0 && address->length == 16) ask(&sixes, fours.rows[at], address->octets, 16);
+        if (answers[fours.rows[at]] < 0 && address->length == 16) ask(&sixes, fours.rows[at], address->octets, 16);
     }
-    return numbers_of(&table->sixes, table->six_numbers, &sixes, told);
+    return numbers_of(&table->sixes, table->six_numbers, &sixes, answers);
 }
 
 /* table_find_column(search, addresses): a number for each of the addresses, which are as `read_rows` leaves them. */
@@ -220,9 +220,9 @@ static PyObject *table_find_column(PyObject *module, PyObject *arguments) {
         Py_BEGIN_ALLOW_THREADS
         for (; from < count; from += AT_ONCE) {
             size_t asked = count - from < AT_ONCE ? count - from : AT_ONCE;
-            int64_t told[AT_ONCE];
-            if ((fault = table_has_rows(&table, addresses + from, asked, told, &row)) != IPNETWORK_OK) break;
-            memcpy(room + from * sizeof *told, told, asked * sizeof *told);
+            int64_t answers[AT_ONCE];
+            if ((fault = table_has_rows(&table, addresses + from, asked, answers, &row)) != IPNETWORK_OK) break;
+            memcpy(room + from * sizeof *answers, answers, asked * sizeof *answers);
         }
         Py_END_ALLOW_THREADS
         if (fault == IPNETWORK_NO_FAMILY) no_such_row((Py_ssize_t)(from + row), addresses[from + row].length);

@@ -115,7 +115,7 @@ class Table(Joins[Value]):
     network, and 82 for each IPv6 network.
 
     With ``mapped``, what is said of either form counts: an IPv4-mapped IPv6 address is a member if
-    the IPv4 address, or the IPv6 address as it stands, is one; its longest network is that of the
+    the IPv4 address, or the IPv6 address itself, is one; its longest network is that of the
     IPv4 address, and if there is none that of the IPv6 address; and so for a network within
     ::ffff:0:0/96. Without it, ``::ffff:10.1.2.3``, as a socket for both families reports an IPv4
     peer, is found in no IPv4 network. An address with a zone is asked by its address; a text with

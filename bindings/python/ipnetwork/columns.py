@@ -42,7 +42,7 @@ no address; neither has a row that ``missing`` names, as an array with a Boolean
 the number (with 6 the pair of numbers) that means no address.
 
 With ``mapped``, or for a set or a table that has this option, what is said of either form counts:
-an IPv4-mapped IPv6 address is a member if the IPv4 address, or the IPv6 address as it stands, is
+an IPv4-mapped IPv6 address is a member if the IPv4 address, or the IPv6 address itself, is
 one; its longest network is that of the IPv4 address, and if there is none that of the IPv6 address;
 and so for a network within ::ffff:0:0/96.
 
@@ -104,8 +104,8 @@ def _array_of(given: Any) -> tuple[NDArray[Any], NDArray[numpy.bool_]]:
 
 def _of_each_row(truths: NDArray[numpy.bool_]) -> NDArray[numpy.bool_]:
     """For each row, whether one of its values is true."""
-    told: NDArray[numpy.bool_] = truths if truths.ndim == 1 else truths.any(axis=1)
-    return told
+    answers: NDArray[numpy.bool_] = truths if truths.ndim == 1 else truths.any(axis=1)
+    return answers
 
 
 def _missing(array: NDArray[Any], missing: Missing, numbers: int) -> NDArray[numpy.bool_]:
@@ -118,8 +118,8 @@ def _missing(array: NDArray[Any], missing: Missing, numbers: int) -> NDArray[num
         raise TypeError(f"missing is {pair}, or an array with a truth value for each row")
     there = wanted.astype(array.dtype)  # a number that is none of the type is in no row
     same: NDArray[numpy.bool_] = (array == there) & (there.astype(object) == wanted.astype(object))
-    told: NDArray[numpy.bool_] = same if same.ndim == 1 else same.all(axis=1)
-    return told
+    answers: NDArray[numpy.bool_] = same if same.ndim == 1 else same.all(axis=1)
+    return answers
 
 
 def _of_numbers(
@@ -272,10 +272,10 @@ def is_member(
     chosen = which if isinstance(which, AddressSet) else AddressSet([which])
     addresses = _addresses(given, numbers, missing, invalid)
     search = chosen._indexed()
-    told = core.set_contains_column((*search[:4], True) if mapped else search, addresses)
+    answers = core.set_contains_column((*search[:4], True) if mapped else search, addresses)
     if invalid == "null":
-        return nulled(given, addresses, told, "?")
-    return numpy.frombuffer(told, numpy.bool_)
+        return nulled(given, addresses, answers, "?")
+    return numpy.frombuffer(answers, numpy.bool_)
 
 
 @overload
@@ -340,7 +340,7 @@ def find(
         )
     addresses = _addresses(given, numbers, missing, invalid)
     search = table._made()
-    told = core.table_find_column(search._replace(mapped=True) if mapped else search, addresses)
+    answers = core.table_find_column(search._replace(mapped=True) if mapped else search, addresses)
     if invalid == "null":
-        return nulled(given, addresses, told, "q")
-    return numpy.frombuffer(told, numpy.int64)
+        return nulled(given, addresses, answers, "q")
+    return numpy.frombuffer(answers, numpy.int64)

@@ -1,6 +1,6 @@
 """Runs a module of tests of this folder, and says of each test that is skipped which it is, and why:
 
-    python3 told.py test_sets
+    python3 run_tests.py test_sets
 """
 
 import sys
