@@ -1,5 +1,5 @@
 // Chromium without a window, asked through the pipe of its debugging protocol.
-import { spawn } from "node:child_process";
+import { execFileSync, spawn } from "node:child_process";
 import { mkdtempSync, rmSync } from "node:fs";
 import { tmpdir } from "node:os";
 import { join } from "node:path";
@@ -10,7 +10,7 @@ const LOADED = `new Promise((done) => {
   document.readyState === "complete" ? done() : addEventListener("load", done);
 })`;
 
-/** A browser with one page. `events` are what it told since it began. */
+/** A browser with one page. `events` are what it reported since it began. */
 export class Browser {
   constructor(program) {
     this.profile = mkdtempSync(join(tmpdir(), "chromium-"));
@@ -106,6 +106,19 @@ export class Browser {
     await this.value(LOADED);
   }
 
+  /** Waits until a page with this name, to which the page before leads, is loaded. */
+  async opened(name) {
+    const end = Date.now() + 10000;
+    const isThere = `location.pathname.endsWith("/${name}") && document.readyState === "complete"`;
+    // What is asked of a page that is just left is refused.
+    while (!(await this.value(isThere).catch(() => false))) {
+      if (Date.now() > end) {
+        throw new Error(`${name} is not opened`);
+      }
+      await new Promise((done) => setTimeout(done, 20));
+    }
+  }
+
   /** The size of the window, and whether its user wants dark pages. */
   async look(width, height, isDark) {
     const size = { width, height, deviceScaleFactor: 1, mobile: width < 600 };
@@ -136,5 +149,14 @@ export class Browser {
   }
 }
 
-/** The names under which Chromium is looked for. */
-export const programs = NAMES;
+/** The program of Chromium. */
+export function found() {
+  for (const name of NAMES) {
+    try {
+      return execFileSync("sh", ["-c", `command -v ${name}`]).toString().trim();
+    } catch {
+      continue;
+    }
+  }
+  throw new Error(`there is none of ${NAMES.join(", ")} here (Debian: chromium)`);
+}

@@ -6,12 +6,11 @@
 // has. With --times it measures lists of 100,000 lines, each of which has to be answered within a
 // second of the last key, and not at each key. The pictures go to FOLDER, if it is given.
 import assert from "node:assert/strict";
-import { execFileSync } from "node:child_process";
 import { existsSync, mkdirSync, mkdtempSync, readFileSync, rmSync, writeFileSync } from "node:fs";
 import { tmpdir } from "node:os";
 import { dirname, join } from "node:path";
 import { fileURLToPath, pathToFileURL } from "node:url";
-import { Browser, programs } from "./chromium.mjs";
+import { Browser, found } from "./chromium.mjs";
 import { LISTS } from "./lists.mjs";
 
 const WEB = dirname(fileURLToPath(import.meta.url));
@@ -30,21 +29,10 @@ const SEEN = `(() => {
   return [view.innerText, ...fields].join("\\n");
 })()`;
 
-function found() {
-  for (const name of programs) {
-    try {
-      return execFileSync("sh", ["-c", `command -v ${name}`]).toString().trim();
-    } catch {
-      continue;
-    }
-  }
-  throw new Error(`there is none of ${programs.join(", ")} here (Debian: chromium)`);
-}
-
 // Blanks and ends of lines are all the same here.
 const plain = (text) => text.replace(/\s+/g, " ");
 
-// Each link of links.txt has its texts, and has not what stands behind `not: `.
+// Each link of links.txt has its texts, and has not what is after `not: `.
 async function links(browser) {
   const rows = readFileSync(join(WEB, "links.txt"), "utf8").split("\n");
   const asked = rows.filter((row) => row !== "" && !row.startsWith("# "));
@@ -341,7 +329,7 @@ async function pictures(browser, folder) {
   }
 }
 
-// The page has asked for nothing but itself, and told of no fault.
+// The page has asked for nothing but itself, and reported no fault.
 function quiet({ events }) {
   const asked = events.filter(({ method }) => method === "Network.requestWillBeSent");
   const urls = asked.map(({ params }) => params.request.url);
@@ -350,7 +338,7 @@ function quiet({ events }) {
   const isFault = ({ method, params }) =>
     method === "Runtime.exceptionThrown" ||
     (method === "Log.entryAdded" && params.entry.level === "error");
-  assert.deepEqual(events.filter(isFault), [], "the page told of this");
+  assert.deepEqual(events.filter(isFault), [], "the page reported this");
 }
 
 // What the page is not allowed to do: to ask for anything.

@@ -51,7 +51,7 @@ const pathOf = (name) => (
 );
 
 /**
- * The same code without comments, which the types have, blank lines, blanks before a line and beside
+ * The same code without comments, which the types have, blank lines, blanks before a line and next to
  * a sign, and ends of lines after `;`, `,` and `{`; strings stay as they are.
  */
 const TEXT_OR_SIGN = /('(?:[^'\\\n]|\\.)*'|`(?:[^`\\]|\\.)*`)| *([-=+*/%<>!&|^?:;,(){}[\]]) */g;
@@ -63,7 +63,7 @@ const squeezed = (code) => code
   .replace(/([;,{])\n/g, '$1');
 const codeOf = (files) => squeezed(files.map((name) => source(pathOf(name))).join('\n'));
 
-/** The text that `unspelled` reads as these bytes, and as a byte 0 behind them if it has room. */
+/** The text that `unspelled` reads as these bytes, and as a byte 0 after them if it has room. */
 function spelled(packed) {
   const digits = '#$%&\'()*+,-./0123456789:;!=>?@ABCDEFGHIJKLMNOPQRSTUVWXYZ'
     + '[]^_`abcdefghijklmnopqrstuvwxyz{|}~';
@@ -78,11 +78,18 @@ function spelled(packed) {
 }
 
 const bytes = readFileSync(modulePath);
-const packed = deflateRawSync(bytes, { level: 9, memLevel: 9 });
-const spelling = spelled(packed);
-if (!bytes.equals(inflated(unspelled(spelling), bytes.length))) {
-  throw new Error('the module is another one when it is unpacked');
-}
+/* inflate.mjs reads only blocks that contain their codes: which of these zlib makes decides each module anew. */
+const isUnpacked = (spelling) => {
+  try {
+    return bytes.equals(inflated(unspelled(spelling), bytes.length));
+  } catch {
+    return false;
+  }
+};
+const spelling = [9, 8, 7, 6, 5].flatMap((level) => [9, 8, 7].map((memLevel) => ({ level, memLevel })))
+  .map((how) => spelled(deflateRawSync(bytes, how)))
+  .find(isUnpacked);
+if (spelling === undefined) throw new Error('no packing of the module has only blocks that contain their codes');
 mkdirSync(folder, { recursive: true });
 const write = (name, text) => writeFileSync(join(folder, name), text);
 const head = '// Made by build.mjs of the sources in bindings/js/src.\n';
@@ -108,7 +115,7 @@ const types = readFileSync(join(here, 'index.d.ts'), 'utf8').replace(/^ +(?=\/?\
 write('index.d.cts', types);
 copyFileSync(join(here, 'package.json'), join(folder, 'package.json'));
 
-/** The page, with the sizes of what is built in the place of those that stand there. */
+/** The page, with the sizes of what is built in the place of those that are there. */
 const { size: codeLength } = statSync(join(folder, 'index.mjs'));
 const SIZES = { 'a file of': codeLength, 'a module of': bytes.length };
 let page = readFileSync(join(here, 'README.md'), 'utf8');

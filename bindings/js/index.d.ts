@@ -214,7 +214,7 @@ export class Ipv6Network extends IpNetwork<Ipv6Address> {
 export interface Mapped {
   /**
    * With `{ mapped: true }`, what is said of either form counts: an IPv4-mapped IPv6 address is a
-   * member if the IPv4 address, or the IPv6 address as it stands, is one; its longest network is
+   * member if the IPv4 address, or the IPv6 address itself, is one; its longest network is
    * that of the IPv4 address, and if there is none that of the IPv6 address; and so for a network
    * within ::ffff:0:0/96.
    *

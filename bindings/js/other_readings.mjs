@@ -1,8 +1,9 @@
 /**
- * The table of texts that other packages for JavaScript read otherwise, for docs/DIFFERENCES.md.
+ * The table of texts that other packages for JavaScript read otherwise, other_readings.txt, of which docs/DIFFERENCES.md
+ * shows rows.
  *
  *     node bindings/js/other_readings.mjs            prints it
- *     node bindings/js/other_readings.mjs --check    sees that it is the one in that page
+ *     node bindings/js/other_readings.mjs --check    sees that it is the one in that file, and has the rows of that page
  *     node bindings/js/other_readings.mjs --there    whether the other packages are here
  *
  * It needs the package in bindings/out/js, and the packages of Debian that others.mjs names.
@@ -53,14 +54,17 @@ const line = (cells) => `| ${cells.join(' | ')} |`;
 const table = [line(head), `|${head.map(() => '---').join('|')}|`, ...rows.map(line)].join('\n');
 
 if (process.argv[2] === '--check') {
-  const page = fileURLToPath(new URL('../../docs/DIFFERENCES.md', import.meta.url));
-  if (!readFileSync(page, 'utf8').includes(`\n${table}\n`)) {
+  const text = (name) => readFileSync(fileURLToPath(new URL(name, import.meta.url)), 'utf8');
+  const page = text('../../docs/DIFFERENCES.md').split('\n');
+  const shown = page.slice(page.indexOf(line(head))).filter((row) => row.startsWith('|'));
+  if (text('other_readings.txt') !== `${table}\n` || !page.includes(line(head))
+    || shown.some((row) => !table.split('\n').includes(row))) {
     console.error(
-      'docs/DIFFERENCES.md has another table than node bindings/js/other_readings.mjs prints'
+      'other_readings.txt or docs/DIFFERENCES.md has another table than node bindings/js/other_readings.mjs prints'
     );
     process.exit(1);
   }
-  console.log(`JavaScript: DIFFERENCES has what four other packages read in ${TEXTS.length} texts`);
+  console.log(`JavaScript: other_readings.txt has what four other packages read in ${TEXTS.length} texts`);
 } else {
   console.log(table);
 }

@@ -6,7 +6,7 @@ import { existsSync } from 'node:fs';
 import Module, { createRequire } from 'node:module';
 
 const FOLDER = '/usr/share/nodejs/';
-/* Where Debian's packages look for one another; another Node than Debian's has to be told. */
+/* Where Debian's packages look for one another; another Node than Debian's needs the path. */
 process.env.NODE_PATH = FOLDER;
 Module._initPaths();
 const require = createRequire(FOLDER);

@@ -1,5 +1,5 @@
 /**
- * Measures the package beside four others for JavaScript, in one run: nanoseconds a call, or a row
+ * Measures the package compared with four others for JavaScript, in one run: nanoseconds a call, or a row
  * of a column.
  *
  *     node bindings/js/speed.mjs [SECONDS]

@@ -27,7 +27,7 @@ for kind in mjs cjs; do
     (cd out/js_user && node "example.$kind") > out/example_said.text
     diff out/example.text out/example_said.text
 done
-echo "JavaScript: the example of README.md prints what stands there, by import and by require"
+echo "JavaScript: the example of README.md prints what the page shows, by import and by require"
 
 if here "JavaScript: bundled" esbuild; then
     for platform in browser node; do
@@ -76,6 +76,6 @@ if node js/other_readings.mjs --there; then
         node js/speed.mjs
     fi
 else
-    skip "JavaScript: beside other packages" "package of Debian that has them" \
+    skip "JavaScript: compared with other packages" "package of Debian that has them" \
         "node-ipaddr.js node-netmask node-ip node-ip-address"
 fi

@@ -208,10 +208,10 @@ export function free(network, list) {
 
 /** What two lists have: only the first, only the second, and both, each as texts and a size. */
 export function compared(one, other) {
-  const told = (set) => ({ texts: set.toJSON(), size: set.size });
+  const summary = (set) => ({ texts: set.toJSON(), size: set.size });
   return {
-    first: told(one.set.difference(other.set)),
-    second: told(other.set.difference(one.set)),
-    both: told(one.set.intersection(other.set)),
+    first: summary(one.set.difference(other.set)),
+    second: summary(other.set.difference(one.set)),
+    both: summary(one.set.intersection(other.set)),
   };
 }

@@ -7,7 +7,7 @@ function bitsOf(octets) {
   return Array.from(octets, (octet) => octet.toString(2).padStart(8, "0")).join("");
 }
 
-// What stands under a group of bits: an octet in decimal, or a group of an IPv6 address.
+// What is under a group of bits: an octet in decimal, or a group of an IPv6 address.
 function numberOf(bits, family) {
   const number = parseInt(bits, 2);
   return family === 4 ? String(number) : number.toString(16);

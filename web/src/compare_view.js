@@ -40,10 +40,10 @@ function sizes(one, other) {
     each.text,
     `${each.first} to ${each.last}, ${addresses(each.size)}`,
   ]);
-  const told = relation(one, other);
-  if (told === "inside") {
+  const found = relation(one, other);
+  if (found === "inside") {
     pairs.push(["Share of the outer", percent(one.size, other.size)]);
-  } else if (told === "around") {
+  } else if (found === "around") {
     pairs.push(["Share of the outer", percent(other.size, one.size)]);
   }
   return descriptions(pairs);

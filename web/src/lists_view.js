@@ -13,18 +13,18 @@ const PARTS = [
   ["both", "In both"],
 ];
 
-function answer(told) {
+function answer(found) {
   const parts = PARTS.map(([name, said]) => {
-    const { texts, size } = told[name];
+    const { texts, size } = found[name];
     const label = `${said}: ${addresses(size)}, ${counted(texts.length, "block")}`;
     return readable(`lists-${name}-blocks`, label, texts);
   });
   return element("div", { class: "columns" }, ...parts);
 }
 
-function sentence(told) {
-  const said = PARTS.map(([name, words]) => `${words}: ${addresses(told[name].size)}.`);
-  if (told.first.size === 0n && told.second.size === 0n) {
+function sentence(found) {
+  const said = PARTS.map(([name, words]) => `${words}: ${addresses(found[name].size)}.`);
+  if (found.first.size === 0n && found.second.size === 0n) {
     return "Both lists have the same addresses.";
   }
   return said.join(" ");
@@ -50,9 +50,9 @@ function show() {
     say("lists-status", `The ${NAMES[wrong]}, line ${line}, is refused: ${cause(code)}.`, true);
     return;
   }
-  const told = compared(...lists);
-  say("lists-status", sentence(told), false);
-  place.append(answer(told));
+  const found = compared(...lists);
+  say("lists-status", sentence(found), false);
+  place.append(answer(found));
 }
 
 /** Answers the question of a link, and from then on what is typed. */

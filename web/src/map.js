@@ -1,5 +1,5 @@
 // The IPv4 space as a square: a Hilbert curve goes through all of it in the order of the addresses,
-// so that each block is a square or two beside each other.
+// so that each block is a square or two next to each other.
 
 // The curve has 512 x 512 places, each of which stands for a block of prefix length 18.
 const ORDER = 9;

@@ -3,7 +3,7 @@ import { ADDRESS, LITTLE, NUMBER, OTHER, bytes, view, words } from './memory.mjs
 import { addressError, textOf, wrongType } from './errors.mjs';
 import { askText, printed } from './texts.mjs';
 import { INSPECT, SENT } from './shown.mjs';
-import { fourContains, sixContains } from './words.mjs';
+import { agreeInFour, agreeInSix } from './masks.mjs';
 
 /**
  * Known only to this package: the first argument of a constructor that is called with what the
@@ -47,12 +47,12 @@ export class IpAddress {
     };
     /* One for each family, so that an engine sees objects of only one shape in it. */
     ofAddress.liesInFour = (address, prefix, a) => (
-      address.#family === 4 && fourContains(prefix, a, address.#a) === 1
+      address.#family === 4 && agreeInFour(prefix, a, address.#a)
     );
     ofAddress.liesInSix = (address, prefix, a, b, c, d) => (
-      address.#family === 6 && sixContains(
+      address.#family === 6 && agreeInSix(
         prefix, a, b, c, d, address.#a, address.#b, address.#c, address.#d,
-      ) === 1
+      )
     );
   }
 

@@ -7,7 +7,7 @@ import {
   v6Union,
 } from './library.mjs';
 import { ANSWER, OTHER, bytes, giveBack, take, view } from './memory.mjs';
-import { Standing } from './standing.mjs';
+import { Resident } from './resident.mjs';
 import { IpNetworkError, never, wrongType } from './errors.mjs';
 import { elementOf, familyOfNetwork, isNetwork, networkAt, putNetwork } from './network.mjs';
 
@@ -49,7 +49,7 @@ export function blockAt({ struct, family }, packed, number) {
  * Networks of one family, packed, as the library keeps them. A list that is searched is also in the
  * memory: an index, by which the library searches it, followed by the networks.
  */
-export class Blocks extends Standing {
+export class Blocks extends Resident {
   constructor(kind, packed) {
     const count = packed.length / kind.struct;
     never(indexSize(count, 0, ANSWER, 0));
@@ -118,7 +118,7 @@ export function withRoom(length, use) {
  * Calls a function with the place of a list: its own, if it is in the memory, or that of a copy.
  */
 function withList(list, use) {
-  return list.stand.place !== 0 ? use(list.place) : withCopy(list.packed, use);
+  return list.slot.place !== 0 ? use(list.place) : withCopy(list.packed, use);
 }
 
 /** The number that a call has written to ANSWER. */

@@ -2,8 +2,8 @@ import { encoder } from './texts.mjs';
 
 const MESSAGES = {
   format: 'there is more than one slash',
-  address: 'what stands before the slash, or the whole text, is no address',
-  prefix: 'what stands after the slash is no prefix length',
+  address: 'the part before the slash, or the whole text, is no address',
+  prefix: 'the part after the slash is no prefix length',
 };
 const CODES = [undefined, 'format', 'address', 'prefix'];
 /* A message shows at most this many bytes of a text. */

@@ -10,8 +10,8 @@ export const library = instanceOf(inflated(unspelled(MODULE), MODULE_LENGTH));
 /** The bytes of a size_t in its memory: 8 in the proved module, and in that of plain Rust 4. */
 export const SIZE = library.size_t_bytes ? library.size_t_bytes.value : 8;
 
-/* Its functions, which c/ipnetwork.h describes, and those of words.wat. Each pointer and each size
- * is two numbers: the low 32 bits and 0. */
+/* Its functions, which c/ipnetwork.h describes. Each pointer and each size is two numbers: the low
+ * 32 bits and 0. */
 export const {
   ipnetwork_build: buildOfLibrary,
   ipnetwork_v4_read: v4Read,
@@ -22,8 +22,6 @@ export const {
   ipnetwork_v4_canonical: v4Canonical,
   ipnetwork_v6_canonical: v6Canonical,
   ipnetwork_address_canonical: addressCanonical,
-  v4_contains_words: v4ContainsWords,
-  v6_contains_words: v6ContainsWords,
   ipnetwork_v4_network: v4Network,
   ipnetwork_v6_network: v6Network,
   ipnetwork_v4_broadcast: v4Broadcast,

@@ -1,7 +1,7 @@
 import { SIZE, indexSize } from './library.mjs';
 import { ANSWER, NUMBER, bytes, view } from './memory.mjs';
 import { never } from './errors.mjs';
-import { Standing } from './standing.mjs';
+import { Resident } from './resident.mjs';
 import { counted, withRoom } from './blocks.mjs';
 import { eachChunkOf } from './columns.mjs';
 
@@ -14,24 +14,24 @@ const numbersAt = (place, count) => Uint32Array.from(
  * Ranges of addresses of one family, with the place of the block that a search finds in each,
  * packed, as the library makes them from a table.
  */
-class Ranges extends Standing {
-  constructor(kind, ranges, beside) {
+class Ranges extends Resident {
+  constructor(kind, ranges, rangeNumbers) {
     const count = ranges.length / kind.struct;
     never(indexSize(count, 0, ANSWER, 0));
     const indexCount = counted();
-    super(beside.length + 4 * indexCount + ranges.length);
+    super(rangeNumbers.length + 4 * indexCount + ranges.length);
     this.kind = kind;
     this.ranges = ranges;
-    this.beside = beside;
+    this.rangeNumbers = rangeNumbers;
     this.count = count;
     this.indexCount = indexCount;
   }
 
   /** The places come first, then the index, and then the ranges. */
   write(place) {
-    const index = place + this.beside.length;
+    const index = place + this.rangeNumbers.length;
     const ranges = index + 4 * this.indexCount;
-    bytes.set(this.beside, place);
+    bytes.set(this.rangeNumbers, place);
     bytes.set(this.ranges, ranges);
     never(this.kind.tableIndexMake(ranges, 0, this.count, 0, index, 0, this.indexCount, 0));
   }
@@ -73,7 +73,7 @@ class Ranges extends Standing {
   /** Frees its memory. There are no ranges after that. */
   free() {
     this.leave();
-    this.ranges = this.beside = new Uint8Array(0);
+    this.ranges = this.rangeNumbers = new Uint8Array(0);
     this.count = 0;
   }
 }

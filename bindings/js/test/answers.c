@@ -20,9 +20,9 @@ static void must(ipnetwork_fault fault) {
 static void print_address(const uint8_t *octets, uint8_t length) {
     ipnetwork_address address = {{0}, length};
     char text[IPNETWORK_ADDRESS_TEXT];
-    size_t told;
+    size_t written;
     memcpy(address.octets, octets, length);
-    must(ipnetwork_address_canonical(&address, text, sizeof text, &told));
+    must(ipnetwork_address_canonical(&address, text, sizeof text, &written));
     printf(" %s", text);
 }
 
@@ -34,8 +34,8 @@ static void print_address(const uint8_t *octets, uint8_t length) {
                                                                                                   \
     static void print_##V(const ipnetwork_##V *network) {                                         \
         char text[TEXT];                                                                          \
-        size_t told;                                                                              \
-        must(ipnetwork_##V##_canonical(network, text, sizeof text, &told));                       \
+        size_t written;                                                                              \
+        must(ipnetwork_##V##_canonical(network, text, sizeof text, &written));                       \
         printf(" %s", text);                                                                      \
     }                                                                                             \
                                                                                                   \
@@ -73,7 +73,7 @@ static void print_address(const uint8_t *octets, uint8_t length) {
                                                                                                   \
     static void lists_##V(void) {                                                                 \
         static ipnetwork_##V sets[2][WINDOW], blocks[BLOCKS];                                     \
-        size_t counts[2] = {0, 0}, places[WINDOW], told;                                          \
+        size_t counts[2] = {0, 0}, places[WINDOW], written;                                          \
         for (size_t i = 0; i < count_##V; i++)                                                    \
             sets[i % 2][counts[i % 2]++] = window_##V[i];                                         \
         for (size_t i = 0; i < 2; i++) {                                                          \
@@ -81,22 +81,22 @@ static void print_address(const uint8_t *octets, uint8_t length) {
             list_##V("set", sets[i], counts[i]);                                                  \
         }                                                                                         \
         must(ipnetwork_##V##_union(sets[0], counts[0], sets[1], counts[1], blocks, BLOCKS,        \
-            &told));                                                                              \
-        list_##V("union", blocks, told);                                                          \
+            &written));                                                                              \
+        list_##V("union", blocks, written);                                                          \
         must(ipnetwork_##V##_intersection(sets[0], counts[0], sets[1], counts[1], blocks,         \
-            BLOCKS, &told));                                                                      \
-        list_##V("intersection", blocks, told);                                                   \
+            BLOCKS, &written));                                                                      \
+        list_##V("intersection", blocks, written);                                                   \
         must(ipnetwork_##V##_difference(sets[0], counts[0], sets[1], counts[1], blocks, BLOCKS,   \
-            &told));                                                                              \
-        list_##V("difference", blocks, told);                                                     \
+            &written));                                                                              \
+        list_##V("difference", blocks, written);                                                     \
         must(ipnetwork_##V##_table_make(window_##V, count_##V, blocks, BLOCKS, places, WINDOW));  \
         printf("asked");                                                                          \
         for (size_t i = 0; i < count_##V; i++) {                                                  \
             uint8_t octets[OCTETS], answer;                                                       \
             must(ipnetwork_##V##_broadcast(window_##V + i, octets));                              \
             must(ipnetwork_##V##_index_contains(sets[0], counts[0], NULL, 0, octets, &answer));   \
-            must(ipnetwork_##V##_index_find(blocks, count_##V, NULL, 0, octets, &told));          \
-            printf(" %u %zu", answer, places[told]);                                              \
+            must(ipnetwork_##V##_index_find(blocks, count_##V, NULL, 0, octets, &written));          \
+            printf(" %u %zu", answer, places[written]);                                              \
         }                                                                                         \
         printf("\n");                                                                             \
         if (count_##V > 1) {                                                                      \
@@ -104,8 +104,8 @@ static void print_address(const uint8_t *octets, uint8_t length) {
             must(ipnetwork_##V##_network(window_##V, first));                                     \
             must(ipnetwork_##V##_broadcast(window_##V + 1, last));                                \
             if (ipnetwork_##V##_range_to_blocks(first, last, blocks, BLOCKS,                      \
-                &told) == IPNETWORK_OK)                                                           \
-                list_##V("range", blocks, told);                                                  \
+                &written) == IPNETWORK_OK)                                                           \
+                list_##V("range", blocks, written);                                                  \
         }                                                                                         \
         count_##V = 0;                                                                            \
     }
@@ -137,8 +137,8 @@ static void number_v4(const ipnetwork_v4 *network) {
     if (network->prefix <= 30) {
         must(ipnetwork_v4_subnet_at(network, (uint8_t)(network->prefix + 2), 3, &subnet));
         char text[IPNETWORK_V4_TEXT];
-        size_t told;
-        must(ipnetwork_v4_canonical(&subnet, text, sizeof text, &told));
+        size_t written;
+        must(ipnetwork_v4_canonical(&subnet, text, sizeof text, &written));
         printf(" %s", text);
     }
 }
@@ -152,8 +152,8 @@ static void number_v6(const ipnetwork_v6 *network) {
     if (network->prefix <= 126) {
         must(ipnetwork_v6_subnet_at(network, (uint8_t)(network->prefix + 2), three, &subnet));
         char text[IPNETWORK_V6_TEXT];
-        size_t told;
-        must(ipnetwork_v6_canonical(&subnet, text, sizeof text, &told));
+        size_t written;
+        must(ipnetwork_v6_canonical(&subnet, text, sizeof text, &written));
         printf(" %s", text);
     }
 }

@@ -31,8 +31,8 @@ test('it says which version and which build of the library it has', () => {
   const { build, version } = ipnetwork;
   assert.equal(version, about.version);
   assert.ok(['proved', 'plain Rust, made of proved sources'].includes(build), build);
-  const told = `${version} (${build})`;
-  assert.equal(told, process.env.IPNETWORK_BUILD ?? told);
+  const text = `${version} (${build})`;
+  assert.equal(text, process.env.IPNETWORK_BUILD ?? text);
 });
 
 test('in a browser it needs nothing of Node', () => {
@@ -88,7 +88,7 @@ test('its page has the sizes of what is built', () => {
 test('exports.txt has the functions of the module that the sources name', () => {
   const named = readFileSync(join(bindings, 'js/exports.txt'), 'utf8').trim().split('\n');
   const source = readFileSync(join(bindings, 'js/src/library.mjs'), 'utf8');
-  assert.deepEqual(named.sort(), source.match(/\bipnetwork_\w+|\bv\d_contains_words/g).sort());
+  assert.deepEqual(named.sort(), source.match(/\bipnetwork_\w+/g).sort());
 });
 
 test('lists are sorted, and doubles in them found, by the library alone', () => {

@@ -162,7 +162,7 @@ test('octets that say of themselves that they are fewer', () => {
       assert.throws(() => kind.fromOctets(octets), /^RangeError: octets are 2000, and not /);
     }
   }
-  /* Nothing was written over what stands in the memory. */
+  /* Nothing was written over what is in the memory. */
   assert.deepEqual(
     [...set.containsColumn(['10.0.0.1', '9.9.9.9', '2001:db8::1', '909:909::'])], [1, 0, 1, 0],
   );
@@ -259,7 +259,7 @@ test('no message has more than 60 bytes of what is refused', () => {
 });
 
 test('lists whose elements are made while they are looked at', () => {
-  /* An element that asks the package while the list that it stands in is read. */
+  /* An element that asks the package while the list that has it is read. */
   const texts = ['10.0.0.1', 'x', '10.0.0.3'];
   const asking = new Proxy(texts, {
     get(target, name, receiver) {
@@ -296,7 +296,7 @@ test('lists whose elements are made while they are looked at', () => {
 
 test('errors say which element', () => {
   const texts = ['10.0.0.0/8', '10/8', 'x'];
-  const message = 'no IP network at 1: "10/8": what stands before the slash, or the whole text, '
+  const message = 'no IP network at 1: "10/8": the part before the slash, or the whole text, '
     + 'is no address';
   const refused = { name: 'IpNetworkError', code: 'address', index: 1, input: '10/8', message };
   assert.throws(() => new AddressSet(texts), refused);

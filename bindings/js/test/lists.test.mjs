@@ -1,4 +1,4 @@
-/** Sets, tables and columns, beside a table of one byte for each address of a small network. */
+/** Sets, tables and columns, compared with a table of one byte for each address of a small network. */
 import assert from 'node:assert/strict';
 import test from 'node:test';
 import ipnetwork from './package.mjs';
@@ -125,7 +125,7 @@ function numberOf(random, bits) {
   return kind === 0 ? 0n : kind === 1 ? 2n ** BigInt(bits) - 1n : number;
 }
 
-test('large sets, close together and far apart, asked at and beside each end', () => {
+test('large sets, close together and far apart, asked at and next to each end', () => {
   const random = new Random(12);
   let blocks = 0;
   for (let round = 0; round < 120; round += 1) {
@@ -158,7 +158,7 @@ test('large sets, close together and far apart, asked at and beside each end', (
   assert.ok(blocks > 120 * 25, `${blocks} blocks`);
 });
 
-test('tables, beside a look at each network', () => {
+test('tables, compared with a look at each network', () => {
   const random = new Random(8);
   for (let round = 0; round < 100; round += 1) {
     const { networks } = sample(random, round % 20);

@@ -59,7 +59,7 @@ test('long texts and columns', () => {
 });
 
 test('sets and tables in a loop that never waits', () => {
-  /* No callback of a registry runs while it lasts. Each set is asked, so that it stands in the
+  /* No callback of a registry runs while it lasts. Each set is asked, so that it is in the
    * memory of the module. */
   flat(20_000, 8, (i) => {
     const set = new AddressSet(
@@ -108,7 +108,7 @@ test('a set that nothing refers to is let go of', async () => {
   assert.ok(collected.length >= 49, `${collected.length} of 50 are collected`);
 });
 
-test('more sets than stand in the memory at once give the same answers', () => {
+test('more sets than are in the memory at once give the same answers', () => {
   const sets = Array.from(
     { length: 6000 }, (_, i) => new AddressSet([`10.${i >> 8}.${i & 255}.0/24`]),
   );

@@ -1,21 +1,10 @@
 /** The places that the package gives out of the memory of the module: none twice at once. */
 import assert from 'node:assert/strict';
-import { cpSync, mkdtempSync, readFileSync, rmSync, writeFileSync } from 'node:fs';
-import { tmpdir } from 'node:os';
-import { join } from 'node:path';
 import test from 'node:test';
-import { bindings, folder } from './package.mjs';
 import { Random } from './random.mjs';
+import { exportsOf } from './sources.mjs';
 
-/* The sources, with the module of the package that is built. */
-const sources = mkdtempSync(join(tmpdir(), 'ipnetwork-'));
-cpSync(join(bindings, 'js/src'), sources, { recursive: true });
-const built = readFileSync(join(folder, 'index.mjs'), 'utf8').match(/^const MODULE.*;$/gm);
-writeFileSync(join(sources, 'module.mjs'), built.join('\n').replace(/^const/gm, 'export const'));
-const memory = await import(`file://${sources}/memory.mjs`);
-const { AddressColumn } = await import(`file://${sources}/columns.mjs`);
-const { AddressSet } = await import(`file://${sources}/set.mjs`);
-rmSync(sources, { recursive: true });
+const [memory, { AddressColumn }, { AddressSet }] = await exportsOf('memory', 'columns', 'set');
 
 test('places of random lengths', () => {
   const random = new Random(9);
@@ -59,7 +48,7 @@ test('a column goes through the memory in parts', () => {
   assert.ok(memory.memorySize() <= before + 2 ** 20);
 });
 
-test('of large lists only some stand in the memory', () => {
+test('of large lists only some are in the memory', () => {
   const before = memory.memorySize();
   const networks = Array.from({ length: 60_000 }, (_, i) => `2001:db8:${i.toString(16)}::/49`);
   let set = new AddressSet(networks);

@@ -4,7 +4,7 @@ import {
   Ipv6Address, Ipv6Network, NetworkColumn, PrefixTable, aggregate, build, summarizeRange, version,
 } from 'ipnetwork';
 
-const told: string = `${version} (${build})`;
+const text: string = `${version} (${build})`;
 
 const network: Ipv4Network | Ipv6Network = IpNetwork.parse('10.1.9.32/16');
 const four: Ipv4Network = Ipv4Network.parse('10.0.0.0/8');

@@ -211,3 +211,25 @@ test('members and subnets', () => {
     break;
   }
 });
+
+test('a network has an address of the same first bits, as the library says', () => {
+  const { AddressSet } = ipnetwork;
+  for (const [text, width] of [['10.165.90.15', 32], ['a55a:f00f:1234::9abc:def0:3:8', 128]]) {
+    const address = IpAddress.parse(text);
+    const others = Array.from({ length: width }, (_, bit) => {
+      const { octets } = address;
+      octets[bit >> 3] ^= 128 >> (bit & 7);
+      return IpAddress.fromOctets(octets);
+    });
+    const texts = others.map(String);
+    for (let prefix = 0; prefix <= width; prefix += 1) {
+      const network = IpNetwork.parse(`${text}/${prefix}`);
+      const members = others.map((other) => (network.contains(other) ? 1 : 0));
+      assert.deepEqual(members, others.map((_, bit) => (bit >= prefix ? 1 : 0)), String(network));
+      assert.deepEqual(members, [...new AddressSet([network]).containsColumn(texts)]);
+      assert.ok(network.contains(address) && network.contains(text));
+    }
+  }
+  assert.ok(!IpNetwork.parse('::/0').contains('0.0.0.0'));
+  assert.ok(!IpNetwork.parse('0.0.0.0/0').contains('::'));
+});

@@ -22,23 +22,7 @@ export function instanceOf(bytes) {
       }));
     };
   }
-  wide.v4_contains_words = byWords(wide, wide.ipnetwork_v4_contains, 4);
-  wide.v6_contains_words = byWords(wide, wide.ipnetwork_v6_contains, 16);
   return wide;
-}
-
-/** What words.wat adds to the other module, by this call and addresses of so many octets. */
-function byWords(wide, call, width) {
-  const place = Number(wide.__heap_base.value);
-  return (prefix, ...words) => {
-    const view = new DataView(wide.memory.buffer);
-    words.forEach((word, at) => {
-      view.setInt32(place + 4 * at + (4 * at < width ? 0 : 32 - width), word, true);
-    });
-    view.setUint8(place + width, prefix);
-    if (call(place, 0, place + 32, 0, place + 64, 0) !== 0) throw new Error('fault of contains');
-    return view.getUint8(place + 64);
-  };
 }
 
 const I64 = 0x7e;
