@@ -53,7 +53,7 @@ least="$(echo "$versions" | head -n 1)"
     "rustc-web, which rust/unpack_rustc unpacks"
 for version in $versions; do
     by "$version" quiet compiler.log cargo check --offline --locked --workspace
-    checks/beside_another "$library.a" "$out" "$rustcs/$version/rustc"
+    checks/with_another "$library.a" "$out" "$rustcs/$version/rustc"
     if [ "$serde" = yes ]; then
         by "$version" all_units
         echo "rustc $version: the packages are built, $passed unit tests passed"

@@ -1,10 +1,6 @@
 //! What the programs `cidr`, `cidr_merge`, `cidr_filter` and `cidr_join` share: lines, lists of networks, addresses of
 //! logs, command lines. Not for other use: nothing here is kept stable. Made of proved sources, and tested.
 #![forbid(unsafe_code)]
-// The sources have the forms that their proofs need.
-#![allow(unused_imports, unused_labels, unused_variables, dead_code)]
-#![allow(clippy::complexity, clippy::style, clippy::large_enum_variant, clippy::manual_contains,
-    clippy::non_canonical_clone_impl)]
 // A value of JSON borrows its document here, so that its type has a lifetime, which the sources do not write.
 #![allow(unknown_lints, mismatched_lifetime_syntaxes)]
 

@@ -24,7 +24,7 @@ pub(crate) fn asked_v4(address: Ipv4Addr) -> core_addr::Ipv4Addr {
 
 /// The address that the core answers.
 #[inline]
-pub(crate) fn told_v4(address: core_addr::Ipv4Addr) -> Ipv4Addr {
+pub(crate) fn from_core_v4(address: core_addr::Ipv4Addr) -> Ipv4Addr {
     Ipv4Addr::from_bits(address.into())
 }
 
@@ -43,7 +43,7 @@ pub(crate) fn asked_v6_by_number(address: Ipv6Addr) -> core_addr::Ipv6Addr {
 
 /// The address that the core answers.
 #[inline]
-pub(crate) fn told_v6(address: core_addr::Ipv6Addr) -> Ipv6Addr {
+pub(crate) fn from_core_v6(address: core_addr::Ipv6Addr) -> Ipv6Addr {
     address.segments().into()
 }
 
@@ -59,8 +59,8 @@ impl Ipv4Network {
 
     /// The network that the core answers.
     #[inline]
-    pub(crate) fn told(network: CoreV4) -> Self {
-        match Self::new_checked(told_v4(network.ip()), network.prefix()) {
+    pub(crate) fn from_core(network: CoreV4) -> Self {
+        match Self::new_checked(from_core_v4(network.ip()), network.prefix()) {
             Some(network) => network,
             None => unreachable!("a network has a prefix length of its family"),
         }
@@ -79,8 +79,8 @@ impl Ipv6Network {
 
     /// The network that the core answers.
     #[inline]
-    pub(crate) fn told(network: CoreV6) -> Self {
-        match Self::new_checked(told_v6(network.ip()), network.prefix()) {
+    pub(crate) fn from_core(network: CoreV6) -> Self {
+        match Self::new_checked(from_core_v6(network.ip()), network.prefix()) {
             Some(network) => network,
             None => unreachable!("a network has a prefix length of its family"),
         }

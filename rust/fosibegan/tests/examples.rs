@@ -8,7 +8,7 @@ use std::process::{Child, ChildStdin, ChildStdout, Command, Stdio};
 
 const EXAMPLES: [&str; 4] = ["allow_list", "ledger", "routes", "two_lists"];
 
-/// Where cargo puts the program of this example: beside the folder of the tests.
+/// Where cargo puts the program of this example: next to the folder of the tests.
 fn path(example: &str) -> PathBuf {
     let mut path = std::env::current_exe().unwrap();
     path.pop();

@@ -1,4 +1,4 @@
-//! Maps beside a list that is gone through, by random operations.
+//! Maps compared with a list that is gone through, by random operations.
 
 mod maps_model;
 
@@ -264,7 +264,7 @@ fn frozen_answers<N: Tested>(seed: u64) {
             expected.push(model.longest(*is_v6, *number));
         }
         let addrs: Vec<N::Addr> = addrs.into_iter().map(|asked| asked.2).collect();
-        // What stood there before is no answer.
+        // What was there before is no answer.
         let mut answers = vec![frozen.iter().next(); addrs.len()];
         frozen.longest_each(&addrs, &mut answers);
         let answers: Vec<_> = answers

@@ -2,10 +2,13 @@
 
 #![cfg(feature = "serde")]
 
+mod formats;
+
+use formats::{By, Format};
 use fosibegan::{FrozenMap, IpNetwork, Ipv4Network, PrefixMap};
 use serde::Deserialize;
 use serde::de::value::{Error, MapDeserializer};
-use serde::ser::{Impossible, Serialize, SerializeSeq, SerializeTuple, Serializer};
+use serde::ser::{Serialize, SerializeSeq, SerializeTuple};
 
 /// A format that has lists, pairs, texts and numbers, which it prints.
 struct Text;
@@ -15,7 +18,7 @@ struct Items(Vec<String>, [&'static str; 2]);
 
 impl Items {
     fn add<T: Serialize + ?Sized>(&mut self, item: &T) -> Result<(), Error> {
-        self.0.push(item.serialize(Text)?);
+        self.0.push(item.serialize(By(Text))?);
         Ok(())
     }
 
@@ -50,90 +53,26 @@ impl SerializeTuple for Items {
     }
 }
 
-/// Methods that this format has not.
-macro_rules! refused {
-    ($($name:ident($($argument:ty),*) -> $answer:ty;)*) => {$(
-        fn $name(self, $(_: $argument),*) -> Result<$answer, Error> {
-            panic!("not of this format")
-        }
-    )*};
-}
-
-type No = Impossible<String, Error>;
-
-impl Serializer for Text {
+impl Format for Text {
     type Ok = String;
-    type Error = Error;
-    type SerializeSeq = Items;
-    type SerializeTuple = Items;
-    type SerializeTupleStruct = No;
-    type SerializeTupleVariant = No;
-    type SerializeMap = No;
-    type SerializeStruct = No;
-    type SerializeStructVariant = No;
+    type Items = Items;
 
-    fn serialize_seq(self, count: Option<usize>) -> Result<Items, Error> {
+    fn list(self, count: Option<usize>) -> Items {
         assert!(count.is_some(), "the length of a map is known");
-        Ok(Items(Vec::new(), ["[", "]"]))
+        Items(Vec::new(), ["[", "]"])
     }
 
-    fn serialize_tuple(self, count: usize) -> Result<Items, Error> {
+    fn tuple(self, count: usize) -> Items {
         assert_eq!(count, 2);
-        Ok(Items(Vec::new(), ["(", ")"]))
+        Items(Vec::new(), ["(", ")"])
     }
 
-    fn serialize_str(self, text: &str) -> Result<String, Error> {
-        Ok(text.to_string())
+    fn text(self, text: &str) -> String {
+        text.to_string()
     }
 
-    fn serialize_u32(self, number: u32) -> Result<String, Error> {
-        Ok(number.to_string())
-    }
-
-    refused! {
-        serialize_bool(bool) -> String;
-        serialize_i8(i8) -> String;
-        serialize_i16(i16) -> String;
-        serialize_i32(i32) -> String;
-        serialize_i64(i64) -> String;
-        serialize_u8(u8) -> String;
-        serialize_u16(u16) -> String;
-        serialize_u64(u64) -> String;
-        serialize_f32(f32) -> String;
-        serialize_f64(f64) -> String;
-        serialize_char(char) -> String;
-        serialize_bytes(&[u8]) -> String;
-        serialize_none() -> String;
-        serialize_unit() -> String;
-        serialize_unit_struct(&'static str) -> String;
-        serialize_unit_variant(&'static str, u32, &'static str) -> String;
-        serialize_tuple_struct(&'static str, usize) -> No;
-        serialize_tuple_variant(&'static str, u32, &'static str, usize) -> No;
-        serialize_map(Option<usize>) -> No;
-        serialize_struct(&'static str, usize) -> No;
-        serialize_struct_variant(&'static str, u32, &'static str, usize) -> No;
-    }
-
-    fn serialize_some<T: Serialize + ?Sized>(self, _: &T) -> Result<String, Error> {
-        panic!("not of this format")
-    }
-
-    fn serialize_newtype_struct<T: Serialize + ?Sized>(
-        self,
-        _: &'static str,
-        _: &T,
-    ) -> Result<String, Error> {
-        panic!("not of this format")
-    }
-
-    fn serialize_newtype_variant<T: Serialize + ?Sized>(
-        self,
-        _: &'static str,
-        _: u32,
-        _: &'static str,
-        _: &T,
-    ) -> Result<String, Error> {
-        panic!("not of this format")
+    fn number(self, number: u32) -> String {
+        number.to_string()
     }
 }
 
@@ -148,18 +87,18 @@ fn a_map_is_a_list_of_pairs() {
     let pairs = [("2001:db8::/32", 3), ("10.1.0.0/16", 2), ("10.0.0.0/8", 1)];
     let text = "[(10.0.0.0/8 1) (10.1.0.0/16 2) (2001:db8::/32 3)]";
     let map: PrefixMap<IpNetwork, u32> = read(&pairs).unwrap();
-    assert_eq!(map.serialize(Text).unwrap(), text);
+    assert_eq!(map.serialize(By(Text)).unwrap(), text);
     let frozen: FrozenMap<IpNetwork, u32> = read(&pairs).unwrap();
-    assert_eq!(frozen.serialize(Text).unwrap(), text);
+    assert_eq!(frozen.serialize(By(Text)).unwrap(), text);
     assert_eq!(frozen.into_map(), map);
     let empty: PrefixMap<IpNetwork, u32> = read(&[]).unwrap();
-    assert_eq!(empty.serialize(Text).unwrap(), "[]");
+    assert_eq!(empty.serialize(By(Text)).unwrap(), "[]");
 }
 
 #[test]
 fn host_bits_are_cleared() {
     let map: PrefixMap<Ipv4Network, u32> = read(&[("10.1.2.3/8", 1)]).unwrap();
-    assert_eq!(map.serialize(Text).unwrap(), "[(10.0.0.0/8 1)]");
+    assert_eq!(map.serialize(By(Text)).unwrap(), "[(10.0.0.0/8 1)]");
 }
 
 #[test]

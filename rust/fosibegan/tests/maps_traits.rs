@@ -28,7 +28,7 @@ fn map_of<V: Clone>(entries: &[(&str, V)]) -> PrefixMap<IpNetwork, V> {
         .collect()
 }
 
-/// Takes items from either end at random, beside a list of what there should be.
+/// Takes items from either end at random, compared with a list of what there should be.
 fn from_both_ends<I>(mut items: I, mut expected: Vec<I::Item>, random: &mut Random)
 where
     I: DoubleEndedIterator + ExactSizeIterator + FusedIterator,
@@ -462,7 +462,7 @@ fn a_panic_in_a_closure_leaves_the_map_whole() {
     has_just(&map, &[("10.2.0.0/16", 3), ("11.0.0.0/8", 5), ("::/0", 4)]);
 }
 
-/// A value whose drop or copy panics if it is told to.
+/// A value whose drop or copy panics if it is set to.
 #[derive(Debug, PartialEq)]
 struct Sore {
     in_drop: bool,
@@ -511,7 +511,7 @@ fn a_panic_of_a_value_leaves_the_map_whole() {
         map.retain(|network, _| network.prefix() == 8)
     }));
     assert!(copied.is_err() && retained.is_err());
-    // The one whose drop panics is gone, and the one behind it may be.
+    // The one whose drop panics is gone, and the one after it may be.
     assert!(!map.contains_key(network("10.1.0.0/16")));
     assert!(map.contains_key(network("10.0.0.0/8")));
     assert_eq!(map.iter().count(), map.len());

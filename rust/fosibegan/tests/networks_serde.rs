@@ -2,96 +2,31 @@
 
 #![cfg(feature = "serde")]
 
+mod formats;
+
 use core::fmt::{self, Debug, Display};
 use core::str::FromStr;
+use formats::{By, Format, No};
 use fosibegan::{IpNetwork, IpNetworkError, Ipv4Network, Ipv6Network};
 use serde::de::value::{
     BytesDeserializer, Error, SeqDeserializer, StrDeserializer, U8Deserializer,
 };
 use serde::de::{DeserializeOwned, Deserializer, IntoDeserializer as _, Visitor};
-use serde::ser::{Impossible, Serialize, Serializer};
-use serde::{Deserialize, forward_to_deserialize_any};
+use serde::{Deserialize, Serialize, forward_to_deserialize_any};
 
 /// A format of bytes alone, which people do not read.
 struct Bytes;
 
-/// Methods that this format has not.
-macro_rules! refused {
-    ($($name:ident($($argument:ty),*) -> $answer:ty;)*) => {$(
-        fn $name(self, $(_: $argument),*) -> Result<$answer, Error> {
-            panic!("not bytes")
-        }
-    )*};
-}
-
-type No = Impossible<Vec<u8>, Error>;
-
-impl Serializer for Bytes {
+impl Format for Bytes {
     type Ok = Vec<u8>;
-    type Error = Error;
-    type SerializeSeq = No;
-    type SerializeTuple = No;
-    type SerializeTupleStruct = No;
-    type SerializeTupleVariant = No;
-    type SerializeMap = No;
-    type SerializeStruct = No;
-    type SerializeStructVariant = No;
+    type Items = No<Vec<u8>>;
 
-    fn is_human_readable(&self) -> bool {
+    fn is_for_people(&self) -> bool {
         false
     }
 
-    fn serialize_bytes(self, bytes: &[u8]) -> Result<Vec<u8>, Error> {
-        Ok(bytes.to_vec())
-    }
-
-    refused! {
-        serialize_bool(bool) -> Vec<u8>;
-        serialize_i8(i8) -> Vec<u8>;
-        serialize_i16(i16) -> Vec<u8>;
-        serialize_i32(i32) -> Vec<u8>;
-        serialize_i64(i64) -> Vec<u8>;
-        serialize_u8(u8) -> Vec<u8>;
-        serialize_u16(u16) -> Vec<u8>;
-        serialize_u32(u32) -> Vec<u8>;
-        serialize_u64(u64) -> Vec<u8>;
-        serialize_f32(f32) -> Vec<u8>;
-        serialize_f64(f64) -> Vec<u8>;
-        serialize_char(char) -> Vec<u8>;
-        serialize_str(&str) -> Vec<u8>;
-        serialize_none() -> Vec<u8>;
-        serialize_unit() -> Vec<u8>;
-        serialize_unit_struct(&'static str) -> Vec<u8>;
-        serialize_unit_variant(&'static str, u32, &'static str) -> Vec<u8>;
-        serialize_seq(Option<usize>) -> No;
-        serialize_tuple(usize) -> No;
-        serialize_tuple_struct(&'static str, usize) -> No;
-        serialize_tuple_variant(&'static str, u32, &'static str, usize) -> No;
-        serialize_map(Option<usize>) -> No;
-        serialize_struct(&'static str, usize) -> No;
-        serialize_struct_variant(&'static str, u32, &'static str, usize) -> No;
-    }
-
-    fn serialize_some<T: Serialize + ?Sized>(self, _: &T) -> Result<Vec<u8>, Error> {
-        panic!("not bytes")
-    }
-
-    fn serialize_newtype_struct<T: Serialize + ?Sized>(
-        self,
-        _: &'static str,
-        _: &T,
-    ) -> Result<Vec<u8>, Error> {
-        panic!("not bytes")
-    }
-
-    fn serialize_newtype_variant<T: Serialize + ?Sized>(
-        self,
-        _: &'static str,
-        _: u32,
-        _: &'static str,
-        _: &T,
-    ) -> Result<Vec<u8>, Error> {
-        panic!("not bytes")
+    fn bytes(self, bytes: &[u8]) -> Vec<u8> {
+        bytes.to_vec()
     }
 }
 
@@ -148,7 +83,7 @@ where
     assert_eq!(of_text(text), Ok(network));
     let as_bytes: BytesDeserializer<'_, Error> = BytesDeserializer::new(text.as_bytes());
     assert_eq!(N::deserialize(as_bytes), Ok(network));
-    assert_eq!(network.serialize(Bytes).unwrap(), bytes);
+    assert_eq!(network.serialize(By(Bytes)).unwrap(), bytes);
     assert_eq!(of_bytes(bytes), Ok(network));
     assert_eq!(N::deserialize(Read(bytes, false)), Ok(network));
 }

@@ -2,10 +2,13 @@
 
 #![cfg(feature = "serde")]
 
+mod formats;
+
+use formats::{By, Format, No};
 use fosibegan::{AddressSet, FrozenSet, IpNetwork, Ipv4Network, Ipv6Network, Network};
 use serde::de::value::{Error, SeqDeserializer, StrDeserializer};
 use serde::de::{Deserialize, IntoDeserializer as _};
-use serde::ser::{Impossible, Serialize, SerializeSeq, Serializer};
+use serde::ser::{Serialize, SerializeSeq, SerializeTuple};
 
 /// A format that has lists of texts and nothing else.
 struct Texts;
@@ -21,7 +24,7 @@ impl SerializeSeq for List {
     type Error = Error;
 
     fn serialize_element<T: Serialize + ?Sized>(&mut self, value: &T) -> Result<(), Error> {
-        self.1.push(value.serialize(Text)?);
+        self.1.push(value.serialize(By(Text))?);
         Ok(())
     }
 
@@ -30,107 +33,35 @@ impl SerializeSeq for List {
     }
 }
 
-macro_rules! refused {
-    ($ok:ty: $($name:ident($($argument:ty),*);)*) => {$(
-        fn $name(self, $(_: $argument),*) -> Result<$ok, Error> {
-            panic!("not of this format")
-        }
-    )*};
-}
-
-/// What a serializer refuses whose only method beside these is one for a text or a list.
-macro_rules! others {
-    ($ok:ty) => {
-        type SerializeTuple = Impossible<$ok, Error>;
-        type SerializeTupleStruct = Impossible<$ok, Error>;
-        type SerializeTupleVariant = Impossible<$ok, Error>;
-        type SerializeMap = Impossible<$ok, Error>;
-        type SerializeStruct = Impossible<$ok, Error>;
-        type SerializeStructVariant = Impossible<$ok, Error>;
-
-        refused! { $ok:
-            serialize_bool(bool);
-            serialize_i8(i8);
-            serialize_i16(i16);
-            serialize_i32(i32);
-            serialize_i64(i64);
-            serialize_u8(u8);
-            serialize_u16(u16);
-            serialize_u32(u32);
-            serialize_u64(u64);
-            serialize_f32(f32);
-            serialize_f64(f64);
-            serialize_char(char);
-            serialize_bytes(&[u8]);
-            serialize_none();
-            serialize_unit();
-            serialize_unit_struct(&'static str);
-            serialize_unit_variant(&'static str, u32, &'static str);
-        }
-
-        refused! { Impossible<$ok, Error>:
-            serialize_tuple(usize);
-            serialize_tuple_struct(&'static str, usize);
-            serialize_tuple_variant(&'static str, u32, &'static str, usize);
-            serialize_map(Option<usize>);
-            serialize_struct(&'static str, usize);
-            serialize_struct_variant(&'static str, u32, &'static str, usize);
-        }
-
-        fn serialize_some<T: Serialize + ?Sized>(self, _: &T) -> Result<$ok, Error> {
-            panic!("not of this format")
-        }
-
-        fn serialize_newtype_struct<T: Serialize + ?Sized>(
-            self,
-            _: &'static str,
-            _: &T,
-        ) -> Result<$ok, Error> {
-            panic!("not of this format")
-        }
-
-        fn serialize_newtype_variant<T: Serialize + ?Sized>(
-            self,
-            _: &'static str,
-            _: u32,
-            _: &'static str,
-            _: &T,
-        ) -> Result<$ok, Error> {
-            panic!("not of this format")
-        }
-    };
-}
-
-impl Serializer for Texts {
+impl SerializeTuple for List {
     type Ok = List;
     type Error = Error;
-    type SerializeSeq = List;
 
-    fn serialize_seq(self, len: Option<usize>) -> Result<List, Error> {
-        Ok(List(len, Vec::new()))
-    }
-
-    fn serialize_str(self, _: &str) -> Result<List, Error> {
+    fn serialize_element<T: Serialize + ?Sized>(&mut self, _: &T) -> Result<(), Error> {
         panic!("not of this format")
     }
 
-    others!(List);
+    fn end(self) -> Result<List, Error> {
+        panic!("not of this format")
+    }
 }
 
-impl Serializer for Text {
+impl Format for Texts {
+    type Ok = List;
+    type Items = List;
+
+    fn list(self, len: Option<usize>) -> List {
+        List(len, Vec::new())
+    }
+}
+
+impl Format for Text {
     type Ok = String;
-    type Error = Error;
-    type SerializeSeq = Impossible<String, Error>;
+    type Items = No<String>;
 
-    fn serialize_seq(self, _: Option<usize>) -> Result<Self::SerializeSeq, Error> {
-        panic!("not of this format")
+    fn text(self, text: &str) -> String {
+        text.to_owned()
     }
-
-    fn serialize_str(self, text: &str) -> Result<String, Error> {
-        Ok(text.to_owned())
-    }
-
-    others!(String);
 }
 
 /// The set of a list, or why there is none. A frozen set is read, and refused, in the same way.
@@ -143,9 +74,9 @@ fn read<'a, N: Network + Deserialize<'a>>(texts: &[&'a str]) -> Result<AddressSe
 
 /// The list of a set, which is that of the frozen set too.
 fn written<N: Network + Serialize>(set: &AddressSet<N>) -> Vec<String> {
-    let List(len, texts) = set.serialize(Texts).unwrap();
+    let List(len, texts) = set.serialize(By(Texts)).unwrap();
     assert_eq!(len, Some(texts.len()));
-    let List(frozen_len, frozen_texts) = set.freeze().serialize(Texts).unwrap();
+    let List(frozen_len, frozen_texts) = set.freeze().serialize(By(Texts)).unwrap();
     assert_eq!((frozen_len, &frozen_texts), (len, &texts));
     texts
 }

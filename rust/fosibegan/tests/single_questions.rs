@@ -1,5 +1,5 @@
-//! The questions that `Ipv4Network`, `Ipv6Network` and `IpNetwork` answer by hand, beside the answers of the core, for
-//! each prefix length, at both ends of the address space and of the network, and for random pairs.
+//! The questions that `Ipv4Network`, `Ipv6Network` and `IpNetwork` answer by hand, compared with the answers of the
+//! core, for each prefix length, at both ends of the address space and of the network, and for random pairs.
 
 use core::net::{IpAddr, Ipv4Addr, Ipv6Addr};
 use fosibegan::{
@@ -143,7 +143,7 @@ macro_rules! family {
                 numbers
             }
 
-            /// The ends of a network and what is beside them.
+            /// The ends of a network and what is next to them.
             fn near(asked: $network) -> [$number; 6] {
                 let (first, last) = (asked.network().to_bits(), asked.broadcast().to_bits());
                 [

@@ -11,7 +11,8 @@
 //!
 //! The parts are `networks`, `sets` and `maps`. `IPNETWORK_UPSTREAM` is a folder with the sources of the crate
 //! `ipnetwork` 0.21.1; without the last line of configuration it is Debian's (librust-ipnetwork-dev), and `ipnet` always
-//! is (librust-ipnet-dev). There is no lock file, since either may be asked for.
+//! is (librust-ipnet-dev), which the feature `ipnet` brings, a default one. There is no lock file, since either may be
+//! asked for. `bench/all --upstream FOLDER` measures the networks without `ipnet`.
 
 mod call;
 mod maps;

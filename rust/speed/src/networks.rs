@@ -205,6 +205,7 @@ pub fn networks(passes: usize) {
         mask,
         iter,
     );
+    #[cfg(feature = "ipnet")]
     each!(IPNET, ipnet::Ipv4Net, ipnet::Ipv6Net, prefix_len, netmask, hosts, &);
     of_two!(
         calls,

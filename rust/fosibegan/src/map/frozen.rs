@@ -30,9 +30,9 @@ use core::net::IpAddr;
 ///
 /// # Memory
 ///
-/// Beside the memory that the map had before, a frozen map takes up to 50 bytes for each IPv4
-/// network and up to 90 bytes for each IPv6 network. To clone a map means to build all of it again:
-/// share a frozen map by [`Arc`](alloc::sync::Arc).
+/// In addition to the memory that the map had before, a frozen map takes up to 50 bytes for each
+/// IPv4 network and up to 90 bytes for each IPv6 network. To clone a map means to build all of it
+/// again: share a frozen map by [`Arc`](alloc::sync::Arc).
 pub struct FrozenMap<N, V> {
     pub(super) parts: Indexes<N, V>,
 }
@@ -364,7 +364,7 @@ impl<V> FrozenMap<IpNetwork, V> {
     /// Returns the longest match of an address that may be an IPv4-mapped IPv6 address.
     ///
     /// For such an address (`::ffff:10.1.2.3`) it is the longest match of the IPv4 address, or, if
-    /// there is none, that of the IPv6 address as it stands. For every other address it is that of
+    /// there is none, that of the IPv6 address itself. For every other address it is that of
     /// [`longest_match`](Self::longest_match).
     ///
     /// # Examples

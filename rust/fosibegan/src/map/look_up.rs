@@ -281,7 +281,7 @@ impl<V> PrefixMap<IpNetwork, V> {
     /// Returns the longest match of an address that may be an IPv4-mapped IPv6 address.
     ///
     /// For such an address (`::ffff:10.1.2.3`) it is the longest match of the IPv4 address, or, if
-    /// there is none, that of the IPv6 address as it stands. For every other address it is that of
+    /// there is none, that of the IPv6 address itself. For every other address it is that of
     /// [`longest_match`](Self::longest_match).
     ///
     /// # Examples

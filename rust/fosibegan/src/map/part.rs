@@ -60,7 +60,7 @@ pub(super) struct Finder<P> {
 }
 
 /// The entries of one family: a list of blocks and one of their values, in which an entry keeps its
-/// place until another one is removed, and what says where an entry stands in them. The values have
+/// place until another one is removed, and what says where an entry is in them. The values have
 /// a list of their own, since a look-up reads nothing else.
 #[derive(Clone)]
 pub(super) struct Part<C, V, P> {
@@ -78,8 +78,8 @@ fn block_of<C: IndexedNetwork>(network: C) -> C {
     C::block_at(network.ip(), network.prefix())
 }
 
-/// The place of an entry that is put behind so many others.
-fn place_behind(count: usize) -> u32 {
+/// The place of an entry that is put after so many others.
+fn place_after(count: usize) -> u32 {
     let Ok(place) = u32::try_from(count) else {
         panic!("capacity overflow");
     };
@@ -183,7 +183,7 @@ impl<C: IndexedNetwork, V> Part<C, V, Table<C>> {
                 Some(mem::replace(&mut self.values[place], value))
             }
             Entry::Vacant(new) => {
-                let place = place_behind(self.values.len());
+                let place = place_after(self.values.len());
                 let finder = self.finder.get_or_insert_with(Finder::boxed);
                 or_abort(finder.places.insert(block, place));
                 finder.lengths.add(block.prefix());
@@ -204,7 +204,7 @@ impl<C: IndexedNetwork, V> Part<C, V, Table<C>> {
         self.order.remove(&block);
         self.blocks.swap_remove(place as usize);
         let value = self.values.swap_remove(place as usize);
-        // The entry that was the last stands here now, unless it is the one that is removed.
+        // The entry that was the last is here now, unless it is the one that is removed.
         if let Some(moved) = self.blocks.get(place as usize) {
             or_abort(finder.places.insert(*moved, place));
             self.order.insert(*moved, place);
@@ -289,7 +289,7 @@ impl<C: IndexedNetwork, V> Part<C, V, Table<C>> {
         if entries.is_empty() {
             return part;
         }
-        place_behind(entries.len() - 1);
+        place_after(entries.len() - 1);
         let mut finder = Finder::boxed();
         for (place, (block, _)) in (0..).zip(&entries) {
             or_abort(finder.places.insert(*block, place));
@@ -319,18 +319,18 @@ impl<C: IndexedNetwork, V> Drop for Refused<'_, C, V> {
 
 #[cfg(test)]
 mod tests {
-    use super::place_behind;
+    use super::place_after;
 
     #[test]
     fn a_place_has_32_bits() {
-        assert_eq!(place_behind(0), 0);
-        assert_eq!(place_behind(u32::MAX as usize), u32::MAX);
+        assert_eq!(place_after(0), 0);
+        assert_eq!(place_after(u32::MAX as usize), u32::MAX);
     }
 
     #[test]
     #[cfg(target_pointer_width = "64")]
     #[should_panic(expected = "capacity overflow")]
     fn there_is_no_place_past_32_bits() {
-        place_behind(u32::MAX as usize + 1);
+        place_after(u32::MAX as usize + 1);
     }
 }

@@ -29,12 +29,12 @@ pub(super) enum Place {
 
 #[inline]
 pub(super) fn network_of_v4<N: Network>(block: CoreV4) -> N {
-    N::of_v4(Ipv4Network::told(block), Here(()))
+    N::of_v4(Ipv4Network::from_core(block), Here(()))
 }
 
 #[inline]
 pub(super) fn network_of_v6<N: Network>(block: CoreV6) -> N {
-    N::of_v6(Ipv6Network::told(block), Here(()))
+    N::of_v6(Ipv6Network::from_core(block), Here(()))
 }
 
 /// The block of this prefix length that has the address. The core has it too, but to take it from
@@ -206,7 +206,7 @@ impl<N: Network, V, P4: Places<CoreV4>, P6: Places<CoreV6>> Parts<N, V, P4, P6> 
 
 impl<V, P4: Places<CoreV4>, P6: Places<CoreV6>> Parts<IpNetwork, V, P4, P6> {
     /// The longest match of the IPv4 address that an IPv4-mapped address has, and if there is none,
-    /// or the address is not mapped, that of the address as it stands.
+    /// or the address is not mapped, that of the address as it is.
     #[inline]
     pub(super) fn longest_match_mapped(&self, addr: IpAddr) -> Option<(IpNetwork, &V)> {
         let canonical = addr.to_canonical();

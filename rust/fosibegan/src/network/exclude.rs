@@ -89,10 +89,10 @@ impl<N: Network> Iterator for Exclude<N> {
         match &mut self.inner {
             Inner::V4(blocks) => blocks
                 .next()
-                .map(|block| N::of_v4(Ipv4Network::told(block), Here(()))),
+                .map(|block| N::of_v4(Ipv4Network::from_core(block), Here(()))),
             Inner::V6(blocks) => blocks
                 .next()
-                .map(|block| N::of_v6(Ipv6Network::told(block), Here(()))),
+                .map(|block| N::of_v6(Ipv6Network::from_core(block), Here(()))),
             Inner::Whole(IpNetwork::V4(network)) => Some(N::of_v4(*network, Here(()))),
             Inner::Whole(IpNetwork::V6(network)) => Some(N::of_v6(*network, Here(()))),
         }

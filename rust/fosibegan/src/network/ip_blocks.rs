@@ -334,11 +334,11 @@ impl IpNetwork {
         }
         let v4 = together::aggregate(v4)
             .into_iter()
-            .map(Ipv4Network::told)
+            .map(Ipv4Network::from_core)
             .map(Self::V4);
         let v6 = together::aggregate(v6)
             .into_iter()
-            .map(Ipv6Network::told)
+            .map(Ipv6Network::from_core)
             .map(Self::V6);
         v4.chain(v6).collect()
     }

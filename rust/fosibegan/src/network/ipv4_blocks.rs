@@ -1,4 +1,4 @@
-//! What an IPv4 network answers about other networks: those beside it, in it and around it.
+//! What an IPv4 network answers about other networks: those next to it, in it and around it.
 
 use super::together;
 use crate::{Exclude, Hosts, Ipv4Network, Subnets, Summarize};
@@ -276,7 +276,7 @@ impl Ipv4Network {
         let networks = networks.into_iter().map(Self::asked).collect();
         together::aggregate(networks)
             .into_iter()
-            .map(Self::told)
+            .map(Self::from_core)
             .collect()
     }
 
@@ -297,6 +297,6 @@ impl Ipv4Network {
     /// ```
     #[must_use]
     pub fn spanning(networks: impl IntoIterator<Item = Self>) -> Option<Self> {
-        together::spanning(networks.into_iter().map(Self::asked)).map(Self::told)
+        together::spanning(networks.into_iter().map(Self::asked)).map(Self::from_core)
     }
 }

@@ -1,4 +1,4 @@
-//! What an IPv6 network answers about other networks: those beside it, in it and around it.
+//! What an IPv6 network answers about other networks: those next to it, in it and around it.
 
 use super::together;
 use crate::{Exclude, Hosts, Ipv6Network, Subnets, Summarize};
@@ -275,7 +275,7 @@ impl Ipv6Network {
         let networks = networks.into_iter().map(Self::asked).collect();
         together::aggregate(networks)
             .into_iter()
-            .map(Self::told)
+            .map(Self::from_core)
             .collect()
     }
 
@@ -296,6 +296,6 @@ impl Ipv6Network {
     /// ```
     #[must_use]
     pub fn spanning(networks: impl IntoIterator<Item = Self>) -> Option<Self> {
-        together::spanning(networks.into_iter().map(Self::asked)).map(Self::told)
+        together::spanning(networks.into_iter().map(Self::asked)).map(Self::from_core)
     }
 }

@@ -58,9 +58,9 @@ impl<N: Network> Subnets<N> {
     fn at(&self, number: u128) -> Option<N> {
         match self.network.either() {
             IpNetwork::V4(network) => subnet_at(network.asked(), self.prefix, number)
-                .map(|network| N::of_v4(Ipv4Network::told(network), Here(()))),
+                .map(|network| N::of_v4(Ipv4Network::from_core(network), Here(()))),
             IpNetwork::V6(network) => subnet_at(network.asked(), self.prefix, number)
-                .map(|network| N::of_v6(Ipv6Network::told(network), Here(()))),
+                .map(|network| N::of_v6(Ipv6Network::from_core(network), Here(()))),
         }
     }
 }

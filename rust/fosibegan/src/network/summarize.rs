@@ -123,11 +123,11 @@ impl<N: Network> Iterator for Summarize<N> {
             Inner::V4(blocks) => blocks
                 .as_mut()?
                 .next()
-                .map(|block| N::of_v4(Ipv4Network::told(block), Here(()))),
+                .map(|block| N::of_v4(Ipv4Network::from_core(block), Here(()))),
             Inner::V6(blocks) => blocks
                 .as_mut()?
                 .next()
-                .map(|block| N::of_v6(Ipv6Network::told(block), Here(()))),
+                .map(|block| N::of_v6(Ipv6Network::from_core(block), Here(()))),
         }
     }
 

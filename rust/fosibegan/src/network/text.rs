@@ -104,7 +104,7 @@ impl FromStr for Ipv4Network {
 
     fn from_str(text: &str) -> Result<Self, IpNetworkError> {
         match library::Ipv4Network::read_bytes(text.as_bytes()) {
-            Ok(network) => Ok(Self::told(network)),
+            Ok(network) => Ok(Self::from_core(network)),
             Err(fault) => Err(refusal(fault, text, "invalid IPv4 address syntax")),
         }
     }
@@ -115,7 +115,7 @@ impl FromStr for Ipv6Network {
 
     fn from_str(text: &str) -> Result<Self, IpNetworkError> {
         match library::Ipv6Network::read_bytes(text.as_bytes()) {
-            Ok(network) => Ok(Self::told(network)),
+            Ok(network) => Ok(Self::from_core(network)),
             Err(fault) => Err(refusal(fault, text, "invalid IPv6 address syntax")),
         }
     }
@@ -129,8 +129,8 @@ impl FromStr for IpNetwork {
     /// wrong with it.
     fn from_str(text: &str) -> Result<Self, IpNetworkError> {
         match library::IpNetwork::read_bytes(text.as_bytes()) {
-            Ok(library::IpNetwork::V4(network)) => Ok(Self::V4(Ipv4Network::told(network))),
-            Ok(library::IpNetwork::V6(network)) => Ok(Self::V6(Ipv6Network::told(network))),
+            Ok(library::IpNetwork::V4(network)) => Ok(Self::V4(Ipv4Network::from_core(network))),
+            Ok(library::IpNetwork::V6(network)) => Ok(Self::V6(Ipv6Network::from_core(network))),
             Err(_) => Err(IpNetworkError::InvalidAddr(text.to_string())),
         }
     }

@@ -62,7 +62,7 @@ use fosibegan_core::plain_std::vec::Vec as CoreVec;
 /// [`contains`](Self::contains) is a binary search: in a set of 10,000 networks it takes about 40
 /// ns, and 75 if these are IPv6. A [`FrozenSet`](crate::FrozenSet), made by
 /// [`freeze`](Self::freeze), answers in 10 and 12. Operations on two sets go over both lists once.
-/// [`insert`](Self::insert) and [`remove`](Self::remove) move the networks behind the place that
+/// [`insert`](Self::insert) and [`remove`](Self::remove) move the networks after the place that
 /// changes; to build a large set, collect it, `extend` it, or use a
 /// [builder](crate::AddressSetBuilder), and to remove many networks, subtract a set of them.
 pub struct AddressSet<N: Network = IpNetwork> {
@@ -106,7 +106,7 @@ impl<N: Network> AddressSet<N> {
 
     /// Adds the addresses of a network. Returns `true` if any of them was not in the set before.
     ///
-    /// Takes a binary search, and moves the networks behind the one that is added. That is slow for
+    /// Takes a binary search, and moves the networks after the one that is added. That is slow for
     /// a great many networks: 400,000 in random order take more than ten seconds one by one, and a
     /// tenth of a second by [`extend`](Extend::extend) or a [builder](crate::AddressSetBuilder).
     ///
@@ -163,7 +163,7 @@ impl<N: Network> AddressSet<N> {
     /// Removes the addresses of a network. Returns `true` if any of them was in the set.
     ///
     /// What is left of a network of the set is split into the fewest networks. Takes a binary
-    /// search, and moves the networks behind the one that is removed. To remove many networks, make
+    /// search, and moves the networks after the one that is removed. To remove many networks, make
     /// a set of them and subtract it: `set -= &others`.
     ///
     /// # Examples

@@ -14,7 +14,7 @@ const LOWER: u128 = 374_607_431_768_211_456;
 /// returns. It is always exact.
 ///
 /// IPv6 has 2<sup>128</sup> addresses, one more than the greatest `u128`, and IPv4 has
-/// 2<sup>32</sup> others. So a count is a type of its own: it is compared with numbers that stand on
+/// 2<sup>32</sup> others. So a count is a type of its own: it is compared with numbers that are on
 /// the right, printed in decimal, and converted by `try_from` where it fits.
 ///
 /// # Examples
@@ -118,7 +118,7 @@ impl fmt::Display for AddressCount {
         if !self.is_past_128_bits {
             return fmt::Display::fmt(&self.rest, f);
         }
-        // No set has more than the addresses of IPv4 beside those of IPv6: there is no carry.
+        // No set has more than the addresses of IPv4 and those of IPv6: there is no carry.
         f.pad_integral(true, "", &format!("{UPPER}{}", LOWER + self.rest))
     }
 }

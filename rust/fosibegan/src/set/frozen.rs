@@ -38,8 +38,8 @@ use fosibegan_core::plain_std::alloc::Global;
 /// # Cost
 ///
 /// [`contains`](Self::contains) takes a few reads if the networks are spread out (10 ns for 10,000
-/// of them), and no longer than a binary search if they are not. Beside the memory of the set, each
-/// end of a range takes 8 to 20 bytes for IPv4, and 20 to 40 for IPv6.
+/// of them), and no longer than a binary search if they are not. In addition to the memory of the
+/// set, each end of a range takes 8 to 20 bytes for IPv4, and 20 to 40 for IPv6.
 #[derive(Clone)]
 pub struct FrozenSet<N: Network = IpNetwork> {
     v4: AddressIndex<CoreV4>,
@@ -52,7 +52,7 @@ impl FrozenSet {
     /// address.
     ///
     /// For an IPv4-mapped address such as `::ffff:10.1.2.3`, this is `true` if the set contains the
-    /// IPv4 address (`10.1.2.3`) or the IPv6 address as it stands. For every other address it is
+    /// IPv4 address (`10.1.2.3`) or the IPv6 address itself. For every other address it is
     /// the same as [`contains`](Self::contains): `10.1.2.3` itself is not looked for among mapped
     /// networks. Where it should be, pass its mapped form, `v4.to_ipv6_mapped()`.
     ///

@@ -43,7 +43,7 @@ impl<A: Iterator<Item = CoreV4>, B: Iterator<Item = CoreV6>> InOrder<A, B> {
         if network.is_none() {
             self.v4 = None;
         }
-        network.map(|network| N::of_v4(Ipv4Network::told(network), Here(())))
+        network.map(|network| N::of_v4(Ipv4Network::from_core(network), Here(())))
     }
 
     fn next_of_v6<N: Network>(&mut self) -> Option<N> {
@@ -51,7 +51,7 @@ impl<A: Iterator<Item = CoreV4>, B: Iterator<Item = CoreV6>> InOrder<A, B> {
         if network.is_none() {
             self.v6 = None;
         }
-        network.map(|network| N::of_v6(Ipv6Network::told(network), Here(())))
+        network.map(|network| N::of_v6(Ipv6Network::from_core(network), Here(())))
     }
 }
 

@@ -119,11 +119,11 @@ impl<N: Network> IntoIterator for AddressSet<N> {
 }
 
 fn of_v4<N: Network>(network: CoreV4) -> N {
-    N::of_v4(Ipv4Network::told(network), Here(()))
+    N::of_v4(Ipv4Network::from_core(network), Here(()))
 }
 
 fn of_v6<N: Network>(network: CoreV6) -> N {
-    N::of_v6(Ipv6Network::told(network), Here(()))
+    N::of_v6(Ipv6Network::from_core(network), Here(()))
 }
 
 /// What both iterators have.
@@ -177,10 +177,10 @@ macro_rules! networks {
             }
 
             fn nth_back(&mut self, n: usize) -> Option<N> {
-                let behind = self.v6.len();
+                let after = self.v6.len();
                 match self.v6.nth_back(n) {
                     Some(network) => Some(of_v6(network)),
-                    None => self.v4.nth_back(n - behind).map(of_v4),
+                    None => self.v4.nth_back(n - after).map(of_v4),
                 }
             }
         }

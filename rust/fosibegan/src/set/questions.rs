@@ -9,7 +9,7 @@ impl AddressSet {
     /// address.
     ///
     /// For an IPv4-mapped address such as `::ffff:10.1.2.3`, this is `true` if the set contains the
-    /// IPv4 address (`10.1.2.3`) or the IPv6 address as it stands. For every other address it is
+    /// IPv4 address (`10.1.2.3`) or the IPv6 address itself. For every other address it is
     /// the same as [`contains`](Self::contains): `10.1.2.3` itself is not looked for among mapped
     /// networks. Where it should be, pass its mapped form, `v4.to_ipv6_mapped()`.
     ///

@@ -1,6 +1,6 @@
 //! The ranges of addresses of a set.
 
-use crate::convert::{CoreV4, CoreV6, told_v4, told_v6};
+use crate::convert::{CoreV4, CoreV6, from_core_v4, from_core_v6};
 use crate::network::sealed::Here;
 use crate::{AddressSet, IpNetwork, Network};
 use core::fmt;
@@ -96,15 +96,15 @@ impl<C: AddressSpace> Iterator for Runs<'_, C> {
     type Item = Ends<C>;
 
     fn next(&mut self) -> Option<Ends<C>> {
-        let (block, behind) = self.rest.split_first()?;
+        let (block, after) = self.rest.split_first()?;
         let (first, mut last) = (block.ip(), block.broadcast());
-        self.rest = behind;
-        while let Some((block, behind)) = self.rest.split_first() {
+        self.rest = after;
+        while let Some((block, after)) = self.rest.split_first() {
             if !touch::<C>(last, block.ip()) {
                 break;
             }
             last = block.broadcast();
-            self.rest = behind;
+            self.rest = after;
         }
         Some((first, last))
     }
@@ -118,11 +118,11 @@ fn touch<C: AddressSpace>(last: C::Addr, first: C::Addr) -> bool {
 type Ends<C> = (<C as CidrNetwork>::Addr, <C as CidrNetwork>::Addr);
 
 fn of_v4<N: Network>((first, last): Ends<CoreV4>) -> RangeInclusive<N::Addr> {
-    N::address_of_v4(told_v4(first), Here(()))..=N::address_of_v4(told_v4(last), Here(()))
+    N::address_of_v4(from_core_v4(first), Here(()))..=N::address_of_v4(from_core_v4(last), Here(()))
 }
 
 fn of_v6<N: Network>((first, last): Ends<CoreV6>) -> RangeInclusive<N::Addr> {
-    N::address_of_v6(told_v6(first), Here(()))..=N::address_of_v6(told_v6(last), Here(()))
+    N::address_of_v6(from_core_v6(first), Here(()))..=N::address_of_v6(from_core_v6(last), Here(()))
 }
 
 impl<N: Network> Iterator for Ranges<'_, N> {

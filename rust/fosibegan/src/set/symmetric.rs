@@ -68,18 +68,18 @@ lazy!(SymmetricDifference);
 #[derive(Clone)]
 struct Edges<'a, C: AddressSpace> {
     ranges: Runs<'a, C>,
-    behind: Option<C::Addr>,
+    after: Option<C::Addr>,
 }
 
 impl<C: AddressSpace> Iterator for Edges<'_, C> {
     type Item = C::Addr;
 
     fn next(&mut self) -> Option<C::Addr> {
-        if let Some(edge) = self.behind.take() {
+        if let Some(edge) = self.after.take() {
             return Some(edge);
         }
         let (first, last) = self.ranges.next()?;
-        self.behind = C::next_address(last);
+        self.after = C::next_address(last);
         Some(first)
     }
 }
@@ -100,7 +100,7 @@ impl<'a, C: AddressSpace> Differing<'a, C> {
         let edges = |blocks| {
             Edges {
                 ranges: Runs::of(blocks),
-                behind: None,
+                after: None,
             }
             .peekable()
         };
@@ -135,7 +135,7 @@ impl<C: AddressSpace> Iterator for Differing<'_, C> {
             }
             let first = self.next_edge()?;
             let last = match self.next_edge() {
-                Some(behind) => C::previous_address(behind)?,
+                Some(after) => C::previous_address(after)?,
                 None => C::whole().broadcast(),
             };
             self.blocks = range_to_blocks(first, last);

@@ -73,7 +73,7 @@ pub trait Tested: Network {
         Self::made(block.is_v6, block.first, block.prefix)
     }
 
-    /// The network as it stands: with its host bits, if it has any.
+    /// The network as it is: with its host bits, if it has any.
     fn numbers(self) -> Block {
         let either: IpNetwork = self.into();
         let (is_v6, first) = match either.ip() {

@@ -1,4 +1,4 @@
-//! The networks of a range, of what is left and of many together, beside sets of addresses.
+//! The networks of a range, of what is left and of many together, compared with sets of addresses.
 
 use crate::common::{Random, has_items, v4, v6};
 use core::net::{IpAddr, Ipv4Addr, Ipv6Addr};
@@ -158,15 +158,15 @@ fn networks_of_a_range() {
 }
 
 /// The networks follow each other from the first address to the last, no two of them are halves of
-/// another, and their number was told.
-fn fill(list: &[IpNetwork], told: usize, first: IpAddr, last: IpAddr) {
-    assert_eq!(list.len(), told);
+/// another, and their number is known.
+fn fill(list: &[IpNetwork], count: usize, first: IpAddr, last: IpAddr) {
+    assert_eq!(list.len(), count);
     assert_eq!(list.first().map(IpNetwork::network), Some(first));
     assert_eq!(list.last().map(IpNetwork::broadcast), Some(last));
     assert!(list.iter().all(|network| network.block() == *network));
     for pair in list.windows(2) {
-        let beside = IpNetwork::from(pair[0].broadcast()).next();
-        assert_eq!(beside.map(|network| network.ip()), Some(pair[1].ip()));
+        let next = IpNetwork::from(pair[0].broadcast()).next();
+        assert_eq!(next.map(|network| network.ip()), Some(pair[1].ip()));
         let halves = pair[0].prefix() == pair[1].prefix()
             && pair[0].supernet(pair[0].prefix() - 1) == pair[1].supernet(pair[1].prefix() - 1);
         assert!(!halves, "{pair:?}");
@@ -187,11 +187,11 @@ fn networks_of_large_ranges() {
         });
         let (first, last) = (one.min(other), one.max(other));
         let range = Ipv4Addr::from_bits(first)..=Ipv4Addr::from_bits(last);
-        let told = Ipv4Network::summarize(range.clone()).len();
+        let count = Ipv4Network::summarize(range.clone()).len();
         let list: Vec<_> = Ipv4Network::summarize(range.clone())
             .map(IpNetwork::V4)
             .collect();
-        fill(&list, told, (*range.start()).into(), (*range.end()).into());
+        fill(&list, count, (*range.start()).into(), (*range.end()).into());
 
         let [one, other] = [(); 2].map(|()| {
             let bits = u128::from(random.word()) << 64 | u128::from(random.word());
@@ -200,11 +200,11 @@ fn networks_of_large_ranges() {
         });
         let (first, last) = (one.min(other), one.max(other));
         let range = Ipv6Addr::from_bits(first)..=Ipv6Addr::from_bits(last);
-        let told = Ipv6Network::summarize(range.clone()).len();
+        let count = Ipv6Network::summarize(range.clone()).len();
         let list: Vec<_> = Ipv6Network::summarize(range.clone())
             .map(IpNetwork::V6)
             .collect();
-        fill(&list, told, (*range.start()).into(), (*range.end()).into());
+        fill(&list, count, (*range.start()).into(), (*range.end()).into());
     }
 }
 

@@ -10,7 +10,7 @@ fn read<T: FromStr<Err: Debug>>(text: &str) -> T {
 }
 
 /// A network with host bits that is neither the first nor the last of its prefix length: its
-/// address, prefix length, first and last address, block, and the addresses beside it.
+/// address, prefix length, first and last address, block, and the addresses next to it.
 type Row = (
     &'static str,
     &'static str,
@@ -42,7 +42,7 @@ const V6: Row = (
 );
 
 fn answers_as<N: Network<Addr: FromStr<Err: Debug>>>(row: Row) {
-    let (text, ip, prefix, first, last, block, beside) = row;
+    let (text, ip, prefix, first, last, block, neighbours) = row;
     let network: N = read(text);
     assert_eq!(network.to_string(), text);
     assert_eq!(network.ip(), read(ip));
@@ -52,10 +52,10 @@ fn answers_as<N: Network<Addr: FromStr<Err: Debug>>>(row: Row) {
     assert_eq!(network.block(), read(block));
 
     assert!(network.contains(read(first)) && network.contains(read(last)));
-    assert!(beside.iter().all(|addr| !network.contains(read(addr))));
+    assert!(neighbours.iter().all(|addr| !network.contains(read(addr))));
 
     let inside = N::from(read(last));
-    let outside = N::from(read(beside[1]));
+    let outside = N::from(read(neighbours[1]));
     assert!(inside.is_subnet_of(network) && !network.is_subnet_of(inside));
     assert!(!outside.is_subnet_of(network) && network.is_subnet_of(network.block()));
     assert!(inside.overlaps(network) && network.overlaps(inside));

@@ -149,7 +149,7 @@ fn hosts() {
 
 /// The first hosts and how many there are, as the core has them.
 #[test]
-fn hosts_beside_the_core() {
+fn hosts_compared_with_the_core() {
     for prefix in 0..=32 {
         for number in [0, u32::MAX, 0xc000_024d] {
             let network = Ipv4Network::new(Ipv4Addr::from_bits(number), prefix).unwrap();

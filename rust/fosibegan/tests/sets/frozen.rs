@@ -138,7 +138,7 @@ fn mapped_addresses() {
             let either = set.contains(IpAddr::V4(v4)) || set.contains(IpAddr::V6(v6));
             assert_eq!(set.contains_mapped(IpAddr::V6(v6)), either);
             assert_eq!(frozen.contains_mapped(IpAddr::V6(v6)), either);
-            // The addresses beside those that are mapped, and the IPv4-compatible ones, are none.
+            // The addresses next to those that are mapped, and the IPv4-compatible ones, are none.
             for other in [
                 number,
                 0xfffe_0000_0000 + number,

@@ -1,4 +1,4 @@
-//! What the iterators of sets have beside `next`.
+//! What the iterators of sets have in addition to `next`.
 
 use crate::space::{Random, Space};
 use fosibegan::{AddressSet, IpNetwork, Ipv4Network, Ipv6Network};
@@ -36,7 +36,7 @@ fn assert_hint<I: Iterator>(iterator: &I, left: usize) {
 }
 
 /// The iterator yields these items, says how many at each step, goes on saying that it is at its end, and its copies go on
-/// where it stands.
+/// where it is.
 fn forwards<I>(mut iterator: I, items: &[I::Item])
 where
     I: FusedIterator + Clone,
@@ -186,8 +186,8 @@ fn nth_takes_constant_time() {
         let mut networks = set.networks();
         assert_eq!(networks.nth(n * 10), Some(network(n * 10)));
         let left = LEN - n * 10 - 1;
-        let from_behind = left.checked_sub(n + 1).map(|_| network(LEN - 1 - n));
-        assert_eq!(networks.nth_back(n), from_behind);
+        let from_back = left.checked_sub(n + 1).map(|_| network(LEN - 1 - n));
+        assert_eq!(networks.nth_back(n), from_back);
     }
     assert!(begin.elapsed().as_secs() < 10, "{:?}", begin.elapsed());
 }
