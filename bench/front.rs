@@ -2,7 +2,7 @@
 //! of the library for C: IPv4 networks of 20 to 28 bits, and IPv6 networks of 36 to 64 bits that share 20. About half of
 //! the addresses are in one. Of a column the time of a row counts.
 
-use fosibegan::{AddressSet, AddressSetBuilder, FrozenMap, FrozenSet, Ipv4Network, Ipv6Network, Network, PrefixMap};
+use fosibegan::{AddressSetBuilder, FrozenMap, FrozenSet, Ipv4Network, Ipv6Network, Network, PrefixMap};
 use std::hint::black_box;
 use std::net::{Ipv4Addr, Ipv6Addr};
 use std::time::Instant;

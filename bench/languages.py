@@ -1,4 +1,4 @@
-"""The part of `bench/all` on the calls of the library, from each language, beside the peers of that language."""
+"""The part of `bench/all` on the calls of the library, from each language, compared with the peers of that language."""
 
 import os
 import pathlib
@@ -7,7 +7,8 @@ import shutil
 import subprocess
 import sys
 
-from parts import LIBRARY, REGISTRY, RUSTC, TOP, Missing, beside, figure, need, paragraph, said, table, tools
+from of_rust import fosibegan
+from parts import LIBRARY, REGISTRY, RUSTC, TOP, Missing, compared, figure, need, paragraph, said, table, tools
 
 # The columns of the table, by the names that the rows below have for them.
 COLUMNS = {
@@ -41,11 +42,11 @@ class Rows:
         self.add_peers({name: times})
 
     def add_peers(self, peers):
-        """Some peers, whose figures stand in one row."""
+        """Some peers, whose figures are in one row."""
         peers = {name: times for name, times in peers.items() if any(time is not None for time in times.values())}
         cells = []
         for column in COLUMNS:
-            found = [beside(self.own.get(column), times.get(column)) for times in peers.values()]
+            found = [compared(self.own.get(column), times.get(column)) for times in peers.values()]
             cells.append("; ".join(found if all(found) else filter(None, found)))
         if peers:
             self.rows.append(["; ".join(peers), *cells])
@@ -117,11 +118,7 @@ def from_rust(run, rows):
     tools("rustc")
     calls = {"read4": ("parse", "IPv4"), "read6": ("parse", "IPv6"), "has4": ("contains", "IPv4"), "has6": ("contains", "IPv6"),
              "print6": ("print", "IPv6")}
-    below = ["-L", run.folder]
-    for name in ("fosibegan_core", "fosibegan"):
-        library = ["rustc", "--edition", "2024", *RUSTC[3:], "--crate-type", "rlib", "--crate-name", name, "--out-dir", run.folder]
-        said([*library, *below, TOP / f"rust/{name}/src/lib.rs"])
-        below += ["--extern", f"{name}={run.folder}/lib{name}.rlib"]
+    below = fosibegan(run)
     ours = rust_times(run, "ours", TOP / "rust/ipnetwork", *below)
     own, plain = ours["this crate"], ours["plain Rust"]
     front = front_times(run, below)
@@ -134,20 +131,19 @@ def from_rust(run, rows):
     # A folder with the sources of the crate takes the place of Debian's, which are of 2020.
     given = os.environ.get("IPNETWORK_UPSTREAM")
     sources = [pathlib.Path(given)] if given else sorted(REGISTRY.glob("ipnetwork-*"))
-    run.without("a prefix trie in Rust (no package of Debian)")
     if not sources:
-        run.without("the Rust crate ipnetwork (IPNETWORK_UPSTREAM, or Debian: librust-ipnetwork-dev)")
+        run.without("the Rust crate ipnetwork (--upstream FOLDER, or Debian: librust-ipnetwork-dev)")
         return []
     crate = rust_times(run, "theirs", sources[0])["this crate"]
     version = re.search(r'^version = "(.*)"$', (sources[0] / "Cargo.toml").read_text(), re.M)[1]
     if not version.startswith("0.21"):
-        run.without("version 0.21.1 of the crate ipnetwork (IPNETWORK_UPSTREAM)")
+        run.without("version 0.21.1 of the crate ipnetwork (--upstream FOLDER)")
     rows.add_peer(f"the crate `ipnetwork` {version}", {column: crate.get(call) for column, call in calls.items()})
     parts = []
     for call in ("network", "broadcast"):
         for family in ("IPv4", "IPv6"):
             each = own[call, family], crate[call, family]
-            parts.append(f"`{call}` of {family} {figure(each[0])}, the crate {beside(*each)}")
+            parts.append(f"`{call}` of {family} {figure(each[0])}, the crate {compared(*each)}")
     return [f"From Rust {'; '.join(parts)}."]
 
 
@@ -198,10 +194,10 @@ def from_python(run, rows):
             run.without(f"{name} ({packages[name]})")
     rows.add_peers({name: {"find_column": times[module]} for name, module in tries.items()})
     own, other = pairs["IPv4: collapse, of 2000"]
-    notes = [f"From Python `collapse_addresses` {figure(own)} a network, `ipaddress` {beside(own, other)}."]
+    notes = [f"From Python `collapse_addresses` {figure(own)} a network, `ipaddress` {compared(own, other)}."]
     own, other = (loops.get(name) for name in ("Table.find(read_address(text)) of each str", "py-radix: search_best of each str"))
     for at, family in enumerate(("IPv4", "IPv6")):
-        peer = f", py-radix {beside(own[at], other[at])}" if other else ""
+        peer = f", py-radix {compared(own[at], other[at])}" if other else ""
         notes.append(f"`Table.find(read_address(text))` in a loop, {family} {figure(own[at])}{peer}.")
     return notes
 
@@ -209,7 +205,6 @@ def from_python(run, rows):
 def from_go(run, rows):
     need("crates/ipnetwork_c/out/libipnetwork_c.a")
     tools("go", "cc")
-    run.without("a current table for Go, such as bart (no package of Debian)")
     environment = {**os.environ, "GOFLAGS": "-mod=mod", "GOPROXY": "off", "GOCACHE": str(TOP / "bindings/out/go")}
     times = {}
     words = ["go", "test", "-run", "none", "-bench", ".", "-benchtime", "20ms" if run.quick else "60ms"]

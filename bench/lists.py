@@ -7,7 +7,7 @@ import resource
 import shutil
 import subprocess
 
-from parts import LIBRARY, REGISTRY, RUSTC, TOP, Differs, Missing, beside, need, paragraph, said, script, table, tools
+from parts import LIBRARY, REGISTRY, RUSTC, TOP, Differs, Missing, compared, need, paragraph, said, script, table, tools
 
 
 def sets(run):
@@ -29,7 +29,7 @@ def sets(run):
             if other[family, call][1] != count:
                 raise Differs(f"{call} of {family}: {count} blocks, and {other[family, call][1]} by numbers")
             crate = other.get((family, "ipnet"), (None,))[0] if call == "aggregate" else None
-            cells += [time, beside(time, other[family, call][0]), beside(time, crate)]
+            cells += [time, compared(time, other[family, call][0]), compared(time, crate)]
         lines.append(cells)
     head = ["Milliseconds", "IPv4", "Numbers", "`ipnet`", "IPv6", "Numbers", "`ipnet`"]
     text = "By the library for C, whose sets check what they are given; peers: numbers in Rust (`bench/sets.rs`), and `ipnet`."
@@ -59,7 +59,8 @@ def look_ups(run):
     if not measured.same:
         raise Differs("look-ups do not find the same")
     text = ("Nanoseconds a look-up by index and, after the semicolon, by the set or the table itself, of a million random "
-            "addresses. DIR-24-8 is plain Rust. The megabytes of the index are those beside its table.")
+            "addresses. DIR-24-8 is plain Rust. Go's `bart`, pytricia and a trie of crates.io are in no package of Debian: "
+            "`bench/tries.rs` has tables of their forms, which are ours. The megabytes of an index come in addition to its table's.")
     return [*paragraph(text), "", *measured.lines]
 
 
@@ -119,17 +120,23 @@ def merge(run):
         times, counts = least(run, commands)
         if len(set(counts.values())) > 1:
             raise Differs(f"cidr_merge and iprange do not print the same: {counts}")
-        rows.append([f"`union`, prefix lengths of {shortest} to 32", times["own"], beside(times["own"], times.get("iprange"))])
+        rows.append([f"`union`, prefix lengths of {shortest} to 32", times["own"], compared(times["own"], times.get("iprange"))])
     commands = {"own": [program, "minus", lists[16], "--", lists[24]]}
     if here(run, "iprange", "iprange"):
         commands["iprange"] = ["iprange", lists[16], "--except", lists[24]]
     times, _ = least(run, commands)
-    rows.append(["`minus` of these two lists", times["own"], beside(times["own"], times.get("iprange"))])
+    rows.append(["`minus` of these two lists", times["own"], compared(times["own"], times.get("iprange"))])
     sought = run.folder / "sought"
     sought.write_text("".join(f"{four(rng.randrange(1 << 24, 224 << 24))}\n" for _ in range(5000)))
     times, _ = least(run, {"one": [program, "find", "5.6.7.8", "--", lists[16]], "all": [program, "find", "--from", sought, "--", lists[16]]})
-    rows.append(["`find` of an address in the second list", times["one"], beside(times["one"], None)])
-    rows.append(["`find --from` of 5,000 addresses", times["all"], beside(times["all"], None)])
+    rows.append(["`find` of an address in the second list", times["one"], compared(times["one"], None)])
+    rows.append(["`find --from` of 5,000 addresses", times["all"], compared(times["all"], None)])
+    used = run.folder / "used"
+    used.write_text("".join(f"{four((64 << 24) + 32 * at)}/28\n" for at in range(1_000_000)))
+    free = {count: [program, "free", "--hosts", ",".join(["30"] * count), "-e", "64.0.0.0/6", "--", used] for count in (1, 1000)}
+    times, _ = least(run, free)
+    rows.append(["`free --hosts` of a number whose network comes after a million used ones", times[1], compared(times[1], None)])
+    rows.append(["`free --hosts` of 1,000 such numbers", times[1000], compared(times[1000], None)])
     return ["Seconds of processor time for a million random IPv4 networks.", "",
             *table(["Command", "`cidr_merge`", "`iprange`"], rows)]
 
@@ -183,8 +190,8 @@ def filter_lines(run):
             raise Differs(f"cidr_filter and grepcidr do not print the same: {counts}")
         if counts["within"] != counts["own"]:
             raise Differs(f"-k 1 and -k 1 -a do not print the same: {counts}")
-        rows.append([name, f"{counts['own']:,}", times["own"], beside(times["own"], times.get("grepcidr")),
-                     times["longest"], times["within"], times["any"], beside(times["any"], times.get("grepcidr any")), times.get("join")])
+        rows.append([name, f"{counts['own']:,}", times["own"], compared(times["own"], times.get("grepcidr")),
+                     times["longest"], times["within"], times["any"], compared(times["any"], times.get("grepcidr any")), times.get("join")])
     megabytes = os.path.getsize(log) >> 20
     head = ["Networks", "Lines printed", "`cidr_filter`", "`grepcidr -x`", "`--longest`", "`-k 1 -a`", "`-a`", "`grepcidr`", "`cidr_join`"]
     lines = "300,000" if run.quick else "a million"

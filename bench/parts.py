@@ -1,4 +1,4 @@
-"""The parts of `bench/all`: each measures one section of docs/SPEED.md, and gives its lines of Markdown.
+"""The parts of `bench/all`: each measures one section of bench/SPEED.md, and gives its lines of Markdown.
 
 A part is called with Run, which says how long it may take and where its files may lie. It raises Missing if what it
 measures is not built or not installed; a peer that is missing is named by `run.without`, and its cells stay empty.
@@ -45,7 +45,7 @@ class Run:
 
 
 def script(name):
-    """A script beside this one, as a module."""
+    """A script next to this one, as a module."""
     loader = importlib.machinery.SourceFileLoader(name, str(TOP / "bench" / name))
     module = importlib.util.module_from_spec(importlib.util.spec_from_loader(name, loader))
     loader.exec_module(module)
@@ -76,7 +76,7 @@ def figure(value):
     return f"{value:.2f}" if value < 1 else f"{value:.1f}" if value < 10 else f"{value:,.0f}"
 
 
-def beside(own, other):
+def compared(own, other):
     """A peer's figure, and in brackets what part of it our own is."""
     if own is None or other is None:
         return ""
@@ -113,7 +113,7 @@ def program(run):
         if not alike:
             raise Differs(f"{row}: the programs do not answer the same")
         own, *others = [1e9 * each for each in taken]
-        cells = [beside(own, each) for each in others] + [""] * (2 - len(others))
+        cells = [compared(own, each) for each in others] + [""] * (2 - len(others))
         steps = None
         if counts and "-" not in row:
             steps = measure.measured([cidr], row, 10_000, 1, measure.instructions, run.folder)[0][0]

@@ -1,6 +1,6 @@
-//! What `cidr` does, in plain Rust over `std::net`: the program beside which `bench/measure` measures it.
+//! What `cidr` does, in plain Rust over `std::net`: the program with which `bench/measure` compares it.
 //!
-//! It takes lines from standard input and writes an answer to each, as docs/PROGRAMS.md says. Routes are kept in
+//! It takes lines from standard input and writes an answer to each, as docs/man/cidr.1 says. Routes are kept in
 //! `BTreeMap`s, or in `HashMap`s if the first argument is `hash`.
 
 use std::collections::{BTreeMap, HashMap};
@@ -264,13 +264,13 @@ impl<M> Routes<M> {
 }
 
 /// The answer to a question that has one word.
-fn told(out: &mut impl Write, text: &str) -> io::Result<()> {
+fn write_line(out: &mut impl Write, text: &str) -> io::Result<()> {
     out.write_all(text.as_bytes())?;
     out.write_all(b"\n")
 }
 
 fn membership(out: &mut impl Write, network_named: bool, answer: Option<bool>) -> io::Result<()> {
-    told(
+    write_line(
         out,
         match answer {
             _ if !network_named => "refused network",
@@ -284,16 +284,16 @@ fn membership(out: &mut impl Write, network_named: bool, answer: Option<bool>) -
 fn read_one<A: Address>(out: &mut impl Write, text: &str) -> io::Result<()> {
     match Network::<A>::read(text) {
         Ok(network) => writeln!(out, "{network}"),
-        Err(Fault::Format) => told(out, "refused format"),
-        Err(Fault::Address) => told(out, "refused address"),
-        Err(Fault::Prefix) => told(out, "refused prefix"),
+        Err(Fault::Format) => write_line(out, "refused format"),
+        Err(Fault::Address) => write_line(out, "refused address"),
+        Err(Fault::Prefix) => write_line(out, "refused prefix"),
     }
 }
 
 fn found<A: Address>(out: &mut impl Write, route: Option<(Network<A>, u32)>) -> io::Result<()> {
     match route {
         Some((block, number)) => writeln!(out, "{block} {number}"),
-        None => told(out, "none"),
+        None => write_line(out, "none"),
     }
 }
 
@@ -315,14 +315,14 @@ impl<M4: Map<Network<Ipv4Addr>>, M6: Map<Network<Ipv6Addr>>> Program<M4, M6> {
             ("read", Some(text), None, None) => match Either::read(text) {
                 Some(Either::V4(network)) => writeln!(out, "{network}"),
                 Some(Either::V6(network)) => writeln!(out, "{network}"),
-                None => told(out, "refused"),
+                None => write_line(out, "refused"),
             },
             ("read4", Some(text), None, None) => read_one::<Ipv4Addr>(out, text),
             ("read6", Some(text), None, None) => read_one::<Ipv6Addr>(out, text),
             ("ends", Some(text), None, None) => match Either::read(text) {
                 Some(Either::V4(network)) => network.write_ends(out),
                 Some(Either::V6(network)) => network.write_ends(out),
-                None => told(out, "refused"),
+                None => write_line(out, "refused"),
             },
             ("has", Some(text), Some(address), None) => {
                 let network = Either::read(text);
@@ -339,25 +339,25 @@ impl<M4: Map<Network<Ipv4Addr>>, M6: Map<Network<Ipv6Addr>>> Program<M4, M6> {
                 membership(out, network.is_some(), answer)
             }
             ("rel", Some(a), Some(b), None) => match (Either::read(a), Either::read(b)) {
-                (Some(a), Some(b)) => told(out, a.relation(&b)),
-                _ => told(out, "refused"),
+                (Some(a), Some(b)) => write_line(out, a.relation(&b)),
+                _ => write_line(out, "refused"),
             },
             ("add", Some(text), Some(number), None) => match (Either::read(text), number.parse()) {
-                (Some(Either::V4(network)), Ok(number)) => told(out, self.v4.add(&network, number)),
-                (Some(Either::V6(network)), Ok(number)) => told(out, self.v6.add(&network, number)),
-                _ => told(out, "refused"),
+                (Some(Either::V4(network)), Ok(number)) => write_line(out, self.v4.add(&network, number)),
+                (Some(Either::V6(network)), Ok(number)) => write_line(out, self.v6.add(&network, number)),
+                _ => write_line(out, "refused"),
             },
             ("drop", Some(text), None, None) => match Either::read(text) {
-                Some(Either::V4(network)) => told(out, self.v4.drop(&network)),
-                Some(Either::V6(network)) => told(out, self.v6.drop(&network)),
-                None => told(out, "refused"),
+                Some(Either::V4(network)) => write_line(out, self.v4.drop(&network)),
+                Some(Either::V6(network)) => write_line(out, self.v6.drop(&network)),
+                None => write_line(out, "refused"),
             },
             ("find", Some(address), None, None) => match address.parse() {
                 Ok(IpAddr::V4(address)) => found(out, self.v4.find(address)),
                 Ok(IpAddr::V6(address)) => found(out, self.v6.find(address)),
-                Err(_) => told(out, "refused"),
+                Err(_) => write_line(out, "refused"),
             },
-            _ => told(out, "unknown command"),
+            _ => write_line(out, "unknown command"),
         }
     }
 
@@ -373,7 +373,7 @@ impl<M4: Map<Network<Ipv4Addr>>, M6: Map<Network<Ipv6Addr>>> Program<M4, M6> {
                 }
             }
             if line.len() > LONGEST_LINE {
-                told(&mut out, "line too long")?;
+                write_line(&mut out, "line too long")?;
             } else {
                 // what is no UTF-8 names nothing, and no more does the character that stands for it
                 self.answer(&String::from_utf8_lossy(&line), &mut out)?;

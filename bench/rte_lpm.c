@@ -99,7 +99,7 @@ static void measure(size_t count) {
         least[0] = middle - start < least[0] ? middle - start : least[0];
         least[1] = end - middle < least[1] ? end - middle : least[1];
     }
-    /* Of its two lists of entries; it has a list of the routes beside them. */
+    /* Of its two lists of entries; it has a list of the routes in addition to them. */
     size_t bytes = sizeof(uint32_t) * ((1 << 24) + 256 * config.number_tbl8s);
     printf("%zu routes: %.0f ps a look-up, %.0f at once, %zu bytes, sum %llu %llu\n", count, least[0] * 1000 / ASKED,
            least[1] * 1000 / ASKED, bytes, (unsigned long long)sums[0], (unsigned long long)sums[1]);

@@ -23,15 +23,15 @@ fn measure<K: Key>(family: &str, count: u32) {
         steps.insert(*address, *prefix, place as u32);
         paths.insert(*address, *prefix, place as u32);
     }
-    told(family, count, "allotment", steps.bytes(), &addresses, |address| steps.lookup(address));
-    told(family, count, "paths", paths.bytes(), &addresses, |address| paths.lookup(address));
+    report(family, count, "allotment", steps.bytes(), &addresses, |address| steps.lookup(address));
+    report(family, count, "paths", paths.bytes(), &addresses, |address| paths.lookup(address));
 }
 
 /// Prints the least time of several passes over the addresses.
-fn told<K: Key>(family: &str, count: u32, name: &str, bytes: usize, addresses: &[K], lookup: impl Fn(K) -> Option<u32>) {
+fn report<K: Key>(family: &str, count: u32, name: &str, bytes: usize, addresses: &[K], lookup: impl Fn(K) -> Option<u32>) {
     let mut best = u128::MAX;
     let mut sum = 0;
-    for _ in 0..5 {
+    for _ in 0..3 {
         let start = Instant::now();
         sum = ask(addresses, &lookup);
         best = best.min(start.elapsed().as_nanos());
@@ -51,7 +51,7 @@ fn ask<K: Key>(addresses: &[K], lookup: &impl Fn(K) -> Option<u32>) -> usize {
 }
 
 /// The addresses of a family.
-trait Key: Copy + Eq + std::ops::BitXor<Output = Self> + std::ops::BitAnd<Output = Self> {
+pub trait Key: Copy + Eq + std::ops::BitXor<Output = Self> + std::ops::BitAnd<Output = Self> {
     const WIDTH: u32;
 
     fn route(first: u64, second: u64) -> (Self, u8);
@@ -175,14 +175,14 @@ struct Step {
 }
 
 /// An allotment table.
-struct Steps {
+pub struct Steps {
     steps: Vec<Step>,
     /// For each byte the numbers of all prefixes of at most eight bits that it begins with.
     begun: Vec<Bits<8>>,
 }
 
 impl Steps {
-    fn new() -> Steps {
+    pub fn new() -> Steps {
         let mut begun = vec![Bits([0; 8]); 256];
         for (byte, bits) in begun.iter_mut().enumerate() {
             let mut number = 256 + byte;
@@ -198,7 +198,7 @@ impl Steps {
         Step { prefixes: Bits([0; 8]), children: Bits([0; 4]), values: Vec::new(), below: Vec::new() }
     }
 
-    fn insert<K: Key>(&mut self, address: K, prefix: u8, value: u32) {
+    pub fn insert<K: Key>(&mut self, address: K, prefix: u8, value: u32) {
         let depth = usize::from(prefix.saturating_sub(1) / 8);
         let length = usize::from(prefix) - 8 * depth;
         let mut at = 0;
@@ -229,7 +229,7 @@ impl Steps {
     }
 
     #[inline]
-    fn lookup<K: Key>(&self, address: K) -> Option<u32> {
+    pub fn lookup<K: Key>(&self, address: K) -> Option<u32> {
         let mut found = None;
         let mut step = &self.steps[0];
         for place in 0..K::WIDTH as usize / 8 {
@@ -259,7 +259,7 @@ impl Steps {
     }
 }
 
-/// A place of a path-compressed trie: its first bits, how many, its value, and the places behind a 0 and a 1 after them.
+/// A place of a path-compressed trie: its first bits, how many, its value, and the places for a 0 and a 1 after them.
 struct Place<K> {
     address: K,
     prefix: u8,
@@ -267,18 +267,18 @@ struct Place<K> {
     next: [u32; 2],
 }
 
-/// A path-compressed trie. The first place is that of no bits, so that 0 stands for no place behind another.
-struct Paths<K> {
+/// A path-compressed trie. The first place is that of no bits, so that 0 stands for no place below another.
+pub struct Paths<K> {
     places: Vec<Place<K>>,
 }
 
 impl<K: Key> Paths<K> {
-    fn new() -> Paths<K> {
+    pub fn new() -> Paths<K> {
         let zero = K::hosts(0) ^ K::hosts(0);
         Paths { places: vec![Place { address: zero, prefix: 0, value: None, next: [0, 0] }] }
     }
 
-    fn insert(&mut self, address: K, prefix: u8, value: u32) {
+    pub fn insert(&mut self, address: K, prefix: u8, value: u32) {
         let address = address & (K::hosts(0) ^ K::hosts(prefix));
         let mut at = 0usize;
         loop {
@@ -296,9 +296,9 @@ impl<K: Key> Paths<K> {
             let common = address.common(other.address).min(prefix.into()).min(other.prefix.into()) as u8;
             if common < other.prefix {
                 let kept = address & (K::hosts(0) ^ K::hosts(common));
-                let behind = other.address.bit(common.into());
+                let bit = other.address.bit(common.into());
                 let made = self.push(kept, common, None);
-                self.places[made as usize].next[behind] = next as u32;
+                self.places[made as usize].next[bit] = next as u32;
                 self.places[at].next[side] = made;
                 at = made as usize;
             } else {
@@ -313,7 +313,7 @@ impl<K: Key> Paths<K> {
     }
 
     #[inline]
-    fn lookup(&self, address: K) -> Option<u32> {
+    pub fn lookup(&self, address: K) -> Option<u32> {
         let mut found = None;
         let mut place = &self.places[0];
         loop {
@@ -345,7 +345,7 @@ fn next(state: u64) -> u64 {
     b ^ (b << 17)
 }
 
-fn routes<K: Key>(count: u32) -> Vec<(K, u8)> {
+pub fn routes<K: Key>(count: u32) -> Vec<(K, u8)> {
     let mut state = 88172645463325252u64;
     let mut routes = Vec::new();
     for _ in 0..count {
