@@ -17,6 +17,8 @@
 #   make go                               writes the package for Go as a module, which can be vendored, with the libraries for
 #                                         Linux that are built, or with the one of cargo; into bindings/out/go
 #   make calculator                       does both, and writes the page web/out/subnets.html over the package
+#   make docs                             writes a site of the pages, the manual pages, rustdoc of the crates and the calculator,
+#                                         if that is built, to be read from a disk; into docs/out
 #   make arm64                            proves the library for C and the programs for Linux on ARM64, and builds them, the
 #                                         wheel for Python and the extension of SQLite; into bindings/out/aarch64
 #   make static                           links the programs that are built once more, with the C library in each, so that
@@ -66,8 +68,9 @@ SHARED = $(OUT)/libipnetwork_c.so.$(VERSION)
 SONAME = libipnetwork_c.so.$(MAJOR)
 EXTENSION = $(OUT)/cidr.so
 PROGRAMS = cidr cidr_merge cidr_filter cidr_join cidr_info
-# The scripts that cut a large input in parts, and what they share.
-SCRIPTS = cidr/in_parts.sh cidr/find_in_parts.sh cidr_merge/in_parts.sh cidr_filter/in_parts.sh cidr_join/in_parts.sh
+# The scripts that cut a large input in parts, and what they share; and lines of formats of logs.
+SCRIPTS = cidr/in_parts.sh cidr/find_in_parts.sh cidr_merge/in_parts.sh cidr_filter/in_parts.sh cidr_join/in_parts.sh \
+    cidr_filter/log_formats.tsv
 SHARED_SCRIPTS = program.sh parts.sh log_in_parts.sh
 # The folder of the kit, if the first rt of the PATH is that of a kit.
 KIT ?= $(shell command -v rt > /dev/null && dirname "$$(dirname "$$(readlink -f "$$(command -v rt)")")")
@@ -188,12 +191,18 @@ calculator:
 	$(MAKE) js
 	web/build
 
-# Of the object files that rt leaves beside the programs, and of the kit's archives.
+# The site of all pages, with a search.
+.PHONY: docs
+docs:
+	$(call tools,python3 pandoc cargo)
+	scripts/docs
+
+# Of the object files that rt leaves next to the programs, and of the kit's archives.
 static:
 	$(call tools,$(if $(KIT),cc,rt cc))
 	@missing=; for file in "$(KIT)/c/libos_c.a" "$(KIT)/c/liblibc_c.a" "$$(cc -print-file-name=libc.a)"; do \
 	    [ -f "$$file" ] || missing="$$missing $$file"; done; \
-	[ -z "$$missing" ] || { echo "make static needs what is not here:$$missing (make static KIT=FOLDER; docs/PROGRAMS.md)" >&2; exit 1; }
+	[ -z "$$missing" ] || { echo "make static needs what is not here:$$missing (make static KIT=FOLDER; bindings/README.md)" >&2; exit 1; }
 	@mkdir -p $(OUT)/static; made=; for program in $(PROGRAMS); do \
 	    object=crates/$$program/out/$$program.o; \
 	    if [ -f $$object ]; then \
@@ -305,7 +314,7 @@ check-install:
 
 # Linux on ARM64: make arm64 proves the library for C and the programs for it, and builds them, the wheel for Python and
 # the extension of SQLite, into bindings/out/aarch64. make install and make deb take what is there, with ARM64=1; with
-# STATIC=1 besides, make install takes the programs that have glibc in them.
+# STATIC=1 too, make install takes the programs that have glibc in them.
 .PHONY: arm64
 arm64:
 	$(call tools,rt python3 aarch64-linux-gnu-gcc)

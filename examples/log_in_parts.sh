@@ -4,7 +4,7 @@
 #   program     the program, by its path
 #   valued      its options that take a value, between blanks: a letter as `-k`, and others, which may be `--NAME=VALUE`
 #
-# and have a function `option NAME [VALUE]`, which is told each option, and may set another `value`.
+# and have a function `option NAME [VALUE]`, which gets each option, and may set another `value`.
 
 takes_value() {
     [[ $valued == *" $1 "* ]]
@@ -63,15 +63,15 @@ list() {
     fi
 }
 
-# The lists are read once before the log, so that what is refused of them is told once, by the names of the lists.
+# The lists are read once before the log, so that what is refused of them is reported once, by the names of the lists.
 check_lists() {
-    local status=0 told number
-    : > "$folder/told"
-    "${words[@]}" < /dev/null > /dev/null 2> "$folder/told" || status=$?
-    told=$(< "$folder/told")
+    local status=0 reported number
+    : > "$folder/reported"
+    "${words[@]}" < /dev/null > /dev/null 2> "$folder/reported" || status=$?
+    reported=$(< "$folder/reported")
     for number in "${!lists[@]}"; do
-        told=${told//"$folder/$number.list"/"${lists[number]}"}
+        reported=${reported//"$folder/$number.list"/"${lists[number]}"}
     done
-    [ ! "$told" ] || printf '%s\n' "$told" >&2
+    [ ! "$reported" ] || printf '%s\n' "$reported" >&2
     [ $status -le 1 ] || exit 2
 }

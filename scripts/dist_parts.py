@@ -1,5 +1,5 @@
-"""What is handed out for one machine: the programs, the library for C and the extension of SQLite in one folder, with the
-wheel for Python. Either what stands proved is taken, or plain Rust is built. scripts/dist asks for it.
+"""What is released for one machine: the programs, the library for C and the extension of SQLite in one folder, with the
+wheel for Python. Either what is proved is taken, or plain Rust is built. scripts/dist asks for it.
 
 A folder of parts has the programs, with glibc in each; libipnetwork_c.a and libipnetwork_c.so.V; cidr.so; the wheel; and of
 proved programs in objects/ what each is linked of, but for glibc.
@@ -64,8 +64,8 @@ class Machine:
 
     # What is proved
 
-    def take_proved(self, folder, told):
-        """Copies what stands proved; told is called with why a program is left out."""
+    def take_proved(self, folder, leave_out):
+        """Copies what is proved; leave_out is called with why a program is left out."""
         self.kind, self.folder = PROVED, folder
         own = not self.tools
         makes = "make" if own else "make arm64"
@@ -82,11 +82,11 @@ class Machine:
             try:
                 self.take_program(program, makes)
             except Lacks as why:
-                told(f"{program} for {self.name}", why)
-        self.extension(told)
+                leave_out(f"{program} for {self.name}", why)
+        self.extension(leave_out)
 
     def take_program(self, program, makes):
-        """A program that has glibc in it, and in one object what it is linked of besides."""
+        """A program that has glibc in it, and in one object what else it is linked of."""
         own, objects = not self.tools, self.folder / "objects"
         place = TOP / f"crates/{program}/out" if own else OUT / "aarch64"
         for name in [program, f"{program}.o"]:
@@ -108,7 +108,7 @@ class Machine:
         (self.folder / "host.o").unlink(missing_ok=True)
         self.programs.append(program)
 
-    def extension(self, told):
+    def extension(self, leave_out):
         """The extension of SQLite."""
         try:
             if subprocess.run([self.tool("gcc"), "-E", "-x", "c", "-"], input=b"#include <sqlite3ext.h>", capture_output=True).returncode:
@@ -121,7 +121,7 @@ class Machine:
                 run(["make", "-s", "sqlite", "PLAIN="])
                 shutil.copy(OUT / "cidr.so", self.folder)
         except Lacks as why:
-            told(f"the extension of SQLite for {self.name}", why)
+            leave_out(f"the extension of SQLite for {self.name}", why)
 
     def arm64(self):
         """The script for ARM64, which writes to the folder of these parts."""
@@ -131,7 +131,7 @@ class Machine:
 
     # What is plain Rust
 
-    def build_plain(self, folder, told):
+    def build_plain(self, folder, leave_out):
         """Builds plain Rust for this machine, the programs with glibc in them."""
         self.kind, self.folder = PLAIN, folder
         folder.mkdir()
@@ -151,7 +151,7 @@ class Machine:
         else:
             shutil.copy(built, library)
             run(["make", "-s", "shared", "PLAIN=1", f"PLAIN_OUT={folder}", f"OUT={folder}"])
-        self.extension(told)
+        self.extension(leave_out)
         for name in [SHARED, "cidr.so"]:
             if (folder / name).is_file():
                 run([self.tool("strip"), "--strip-unneeded", folder / name])
@@ -208,14 +208,14 @@ class Machine:
             raise Lacks("this python3 is older than 3.11, or has free threads")
         return made
 
-    def packages(self, folder, told):
+    def packages(self, folder, leave_out):
         """Puts the packages of Debian there."""
         words = ["scripts/deb", folder, *(["arm64"] if self.tools else []), *(["--plain", self.folder] if self.kind == PLAIN else [])]
         ran = subprocess.run([str(word) for word in words], cwd=TOP, capture_output=True, text=True)
         if ran.returncode:
             raise Lacks(f"scripts/deb ends with status {ran.returncode}: {ran.stderr.strip().splitlines()[-1]}")
         for line in re.findall(r"^make deb: without (.*?): (.*)", ran.stderr, re.M):
-            told(f"the package {line[0]} for {self.debian}", line[1])
+            leave_out(f"the package {line[0]} for {self.debian}", line[1])
         return sorted(folder.glob("*.deb"))
 
     def version_of_rustc(self):

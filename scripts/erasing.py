@@ -1,6 +1,6 @@
 """Takes what is ghost out of one source in Rattle, and leaves Rust: for `scripts/plain`.
 
-What is ghost stands between balanced braces behind words that Rust has not, so that this needs tokens and no syntax
+What is ghost is between balanced braces after words that Rust has not, so that this needs tokens and no syntax
 tree. It knows the language, and no name of the project. What it does not know it refuses.
 """
 
@@ -43,7 +43,7 @@ def code_of(text):
 
 
 def closing(text, at):
-    """The place behind the brace that closes the one at this place, in what is ghost: only texts are skipped."""
+    """The place after the brace that closes the one at this place, in what is ghost: only texts are skipped."""
     depth = 0
     for found in re.compile(r'"[^"\n]*"|[{}]').finditer(text, at):
         depth += {"{": 1, "}": -1}.get(found[0], 0)
@@ -53,7 +53,7 @@ def closing(text, at):
 
 
 def matching(text, at, pair="{}"):
-    """The place behind the bracket of Rust code that closes the one at this place."""
+    """The place after the bracket of Rust code that closes the one at this place."""
     depth = 0
     for kind, token, place in tokens(text, at):
         if kind == "mark":
@@ -64,7 +64,7 @@ def matching(text, at, pair="{}"):
 
 
 def ghost_end(text, at):
-    """The place behind a ghost item, which ends with a `;`, or a ghost field, which ends with a `,` or before a brace."""
+    """The place after a ghost item, which ends with a `;`, or a ghost field, which ends with a `,` or before a brace."""
     for _, token, place in tokens(text, at):
         if token in (";", ","):
             if token == "," and re.match(r"\s*use\b", text[at:]):
@@ -209,7 +209,7 @@ def wheres(text):
 
 
 def for_c(text):
-    """A function for C is a plain one, and beside it one that C calls: a slice comes as a pointer and a length."""
+    """A function for C is a plain one, and next to it one that C calls: a slice comes as a pointer and a length."""
     head = re.compile(r'#\[unsafe\(no_mangle\)\]\n(#\[inline[^\n]*\n)?pub extern "C" fn (\w+)\(')
     at = 0
     while found := head.search(text, at):
@@ -279,7 +279,7 @@ def inlined(text):
 
 
 def texts(text):
-    """The bytes of a text, and a text that is put behind another one, are taken as they stand: `as_str` would look at each
+    """The bytes of a text, and a text that is put after another one, are taken as they are: `as_str` would look at each
     byte first, whether it is one of a text."""
     text = code_sub(r"\.as_str\(\)\s*\.as_bytes\(\)", ".as_bytes()", text)
     return code_sub(r"\.push_str\(([\w.()]+)\.as_str\(\)\)", r".push_text(&\1)", text)

@@ -5,7 +5,7 @@ import re
 
 from erasing import WIDTH, Refused, code_sub, leftover, matching, tokens
 
-# Modules of Rust's std as they are, which stand in core too, and one that does not.
+# Modules of Rust's std as they are, which are in core too, and one that is not.
 CORE = {"cell", "cmp", "error", "fmt", "hash", "marker", "mem", "net", "num", "ops", "str"}
 REAL = {"process"}
 # Kinds of errors that only unstable Rust names, or Rust from 1.87 on.
@@ -39,7 +39,7 @@ IN_TESTS = {
 
 # What a caller from another package has to see to, by the function of the library: the check that is written for it, or none
 # where the body refuses by itself; why it panics; and the type whose function the library itself calls without the check,
-# where that takes long. What has a `requires` and stands not here, no other package can call.
+# where that takes long. What has a `requires` and is not here, no other package can call.
 LENGTHS = ("answers.len() == addrs.len()", "there are not as many answers as addresses")
 PREFIX = "the prefix length is greater than `WIDTH`"
 HELD = "a value holds no network of the family"
@@ -104,7 +104,7 @@ class Layout:
         lines = re.findall(r"^(\w+):(.*)$", listing, re.M)
         self.packages = {package: words.split() for package, words in lines if package not in KEYS}
         said = {key: words.split() for key, words in lines}
-        self.stand_in, *self.stood_for = said["stand_in"]
+        self.stand_in, *self.replaced = said["stand_in"]
         self.optional = dict(zip(said["optional"][::2], said["optional"][1::2]))
         package, crate, module = said["instead"]
         self.instead = {(package, crate): module}
@@ -138,7 +138,7 @@ class Layout:
         if head == "crate":
             return [*self.place(crate, package), *rest]
         if head in self.below[crate] or head == crate:
-            if head in self.stood_for:
+            if head in self.replaced:
                 return [*self.stand_in_from(package), self.instead.get((package, head), head), *rest]
             return [*self.place(head, package), *rest]
         if head == "std":
@@ -229,7 +229,7 @@ class Source:
         return self.layout.mapped(path, self.crate, self.package)
 
     def uses(self):
-        """Sends the paths of each `use` to where they stand; laws go, and what is optional or private is named apart."""
+        """Sends the paths of each `use` to where they are; laws go, and what is optional or private is named apart."""
 
         def new(found):
             indent, attributes, visibility, tree = found[1], found[2], found[3] or "", found[4]
@@ -275,7 +275,7 @@ class Source:
         self.text = re.sub(r"^((?:pub(?:\([^)]*\))? )?mod (\w+);\n)", new, self.text, flags=re.M)
 
     def paths(self):
-        """Sends the paths that stand in the code, outside of `use`, to where they are."""
+        """Sends the paths that are in the code, outside of `use`, to where they are."""
         heads = {"std", "crate", self.crate, *self.layout.below[self.crate]}
         path = re.compile(rf"({'|'.join(sorted(heads))})::(\w+)")
         parts, at = [], 0
@@ -285,7 +285,9 @@ class Source:
             if found:
                 parts.append(found[0])
                 at = found.end()
-        self.text = "".join(parts)
+        own = "::".join(self.mapped(["crate"]))
+        # The links of comments too.
+        self.text = "".join(parts).replace("](crate::", f"]({own}::")
 
     def with_paths(self, text, path):
         """A piece of code with its paths where they are."""
@@ -362,7 +364,7 @@ class Source:
         return self.text[: lead.start()], lead[1], self.text[lead.start(2) :]
 
     def split(self, file, trait, names):
-        """Moves methods of a public trait into one that no other package sees, and that the public one stands on."""
+        """Moves methods of a public trait into one that no other package sees, and that the public one depends on."""
         head = re.compile(rf"^(?:pub )?(trait|impl)\b([^\n]*?)\b{trait}\b([^\n{{]*)\{{\n", re.M)
         for found in reversed(list(head.finditer(self.text))):
             if not (found[3].startswith(" for ") if found[1] == "impl" else found[2] == " "):
@@ -379,12 +381,12 @@ class Source:
                 end = matching(self.text, found.end() - 2)
             path = "" if file == self.file else f"crate::{file.stem}::"
             inner = f"{found[1]}{found[2]}{path}Inner{trait}{found[3]}{{{moved}}}\n"
-            whole, behind = self.text[found.start() : end], self.text[end:].strip("\n")
+            whole, after = self.text[found.start() : end], self.text[end:].strip("\n")
             if found[1] == "trait":
                 inner = f"/// What `{trait}` has for the library alone: nothing checks what it needs.\npub(crate) {inner}"
                 whole = whole.replace(" {\n", f" + Inner{trait} {{\n", 1)
                 whole = f"#[allow(private_bounds)]\n{whole}"
-            self.text = f"{self.text[: found.start()]}{whole}\n\n{inner}\n{behind}\n"
+            self.text = f"{self.text[: found.start()]}{whole}\n\n{inner}\n{after}\n"
 
     def without_example(self, end):
         """The text up to this place, its last comment without examples: no test can call what is not public."""

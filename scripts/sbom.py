@@ -1,4 +1,4 @@
-"""A list of what is linked into files that are handed out, as SPDX 2.3 in JSON. scripts/dist writes it."""
+"""A list of what is linked into files that are released, as SPDX 2.3 in JSON. scripts/dist writes it."""
 
 import datetime
 import json
@@ -92,7 +92,7 @@ def write(folder, commit, linked, to):
         relations += [relation(identity("File", name), "STATIC_LINK", spdx_of(row)["SPDXID"]) for row in sorted(set(linked[name]))]
     created = datetime.datetime.fromtimestamp(moment(), datetime.timezone.utc)
     held = json.dumps(files, sort_keys=True)
-    told = {
+    document = {
         "spdxVersion": "SPDX-2.3",
         "dataLicense": "CC0-1.0",
         "SPDXID": "SPDXRef-DOCUMENT",
@@ -104,4 +104,4 @@ def write(folder, commit, linked, to):
         "files": files,
         "relationships": relations,
     }
-    to.write_text(json.dumps(told, indent=1) + "\n")
+    to.write_text(json.dumps(document, indent=1) + "\n")

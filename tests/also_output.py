@@ -1,6 +1,7 @@
 """Logs that are also the output, as a shell opens them: refused as `grep` refuses them, and others not."""
 
 import os
+import subprocess
 import tempfile
 
 import limits
@@ -9,7 +10,7 @@ LOG = b"10.0.0.1 a\n11.0.0.1 b\n"
 
 
 def rows(name, words, shown, at_end, shown_at_end):
-    """The options, the shell's words behind them, what the log has afterwards, what is reported and the status: of a program
+    """The options, the shell's words after them, what the log has afterwards, what is reported and the status: of a program
     that prints `shown` of LOG, and with the options `at_end`, when all is read, `shown_at_end`."""
 
     def refused(*logs):
@@ -54,3 +55,29 @@ def tried(program, line, *said):
             with open(os.path.join(folder, "log"), "rb") as f:
                 came = [f.read(), got.stderr, got.returncode]
             yield f"{words} {rest}", came == wanted, came
+    yield from of_two_file_systems(program, line, *said[:2])
+
+
+# Two new file systems, whose first files have the same number.
+MOUNTED = """mkdir one other; mount -t tmpfs none one && mount -t tmpfs none other || exit 99
+cat > one/log; : > other/output
+[ "$(stat -c %i one/log)" = "$(stat -c %i other/output)" ] || exit 99
+"$@" one/log > other/output; status=$?; cat other/output; exit $status"""
+
+
+def of_two_file_systems(program, line, words, shown):
+    """A log and an output that have one number, each in a file system of its own: two files."""
+    name = f"{os.path.basename(program)}: a log on another file system"
+    with tempfile.TemporaryDirectory() as folder:
+        with open(os.path.join(folder, "list"), "wb") as f:
+            f.write(line)
+        command = ["unshare", "-rm", "sh", "-c", MOUNTED, "sh", os.path.abspath(program), *words.split()]
+        try:
+            got = subprocess.run(command, cwd=folder, input=LOG, capture_output=True)
+        except FileNotFoundError:
+            got = subprocess.CompletedProcess(command, 99)
+    # 1 and no output: unshare may not.
+    if got.returncode == 99 or got.returncode == 1 and b"unshare" in got.stderr:
+        print(f"{name}: skipped, since there is no unshare that mounts here (Debian: util-linux)")
+    else:
+        yield name, (got.stdout, got.stderr, got.returncode) == (shown, b"", 0), got

@@ -1,4 +1,4 @@
-"""Rows of `tests/cidr_filter` over the addresses that stand anywhere in a line, in a word, or behind a mapped prefix. What
+"""Rows of `tests/cidr_filter` over the addresses that are anywhere in a line, in a word, or after a mapped prefix. What
 is expected is computed here, by regular expressions and Python's `ipaddress`. Each function yields a name, whether the
 row is as it should be, and what was got."""
 
@@ -24,29 +24,29 @@ def address(text):
 
 
 def begun(run):
-    """The address that begins a run, and its text: the run, or the run without a mark at its end, or an IPv4 one without a
-    port."""
+    """The address that begins a run, and its text: the run, or the run without a mark at its end, or one with dots before a
+    port, which a mark may follow."""
     tries = [run]
     if run[-1:] in (".", ":"):
         tries.append(run[:-1])
     for text in tries:
         if address(text):
             return text, address(text)
-    port = re.fullmatch(r"(.*):[0-9]{1,5}", run)
-    if port and address(port[1]) and address(port[1]).version == 4:
+    port = re.fullmatch(r"(.*[.].*):[0-9]{1,5}[.:]?", run)
+    if port and address(port[1]):
         return port[1], address(port[1])
     return None
 
 
-def behind_word(text):
-    """What is behind the first colon, if a word is before it: letters, digits, `.` and `_`, one of which no address has."""
+def after_word(text):
+    """What is after the first colon, if a word is before it: letters, digits, `.` and `_`, one of which no address has."""
     word, _, rest = text.partition(":")
     return rest if re.search("[g-zG-Z_]", word) and "/" not in word else ""
 
 
 def of_run(run):
-    """The address of a run, and its text: the one that begins it, or begins what is behind a word."""
-    return begun(run) or begun(behind_word(run))
+    """The address of a run, and its text: the one that begins it, or begins what is after a word."""
+    return begun(run) or begun(after_word(run))
 
 
 def of_line(line):
@@ -119,7 +119,7 @@ def logs(rng):
 
 
 def shapes(program, folder):
-    """Logs of usual shapes, of which the addresses stand anywhere."""
+    """Logs of usual shapes, of which the addresses are anywhere."""
     networks = [ipaddress.ip_network(text) for text in LIST]
     lists = [word for text in LIST for word in ("-e", text)]
     anywhere = lambda line: [found for _, found in of_line(line)]
@@ -148,7 +148,7 @@ def texts(program, folder):
 
 
 def value_after(line, text):
-    """What is behind the text, and behind blanks, quotation marks and `[`, if an address is there, else nothing. The text
+    """What is after the text, and after blanks, quotation marks and `[`, if an address is there, else nothing. The text
     does not count inside a name."""
     for place in re.finditer(f"(?={re.escape(text)})", line):
         if not re.fullmatch("[A-Za-z0-9._-]{2}", line[max(place.start() - 1, 0) : place.start() + 1]):
@@ -160,7 +160,7 @@ def value_after(line, text):
 
 
 def after(program, folder):
-    """With --after the first address behind a text."""
+    """With --after the first address after a text."""
     networks = [ipaddress.ip_network(text) for text in LIST]
     lists = [word for text in LIST for word in ("-e", text)]
     for name, lines in logs(random.Random(7)):
@@ -206,7 +206,7 @@ def field(line, number, separator):
 
 
 def parts(program, folder):
-    """Addresses anywhere in a field or behind a text, and which of them counts."""
+    """Addresses anywhere in a field or after a text, and which of them counts."""
     networks = [ipaddress.ip_network(text) for text in LIST]
     lists = [word for text in LIST for word in ("-e", text)]
     places = [(["-k2", "-d", '"'], lambda line: field(line, 2, '"'), "in field 2"), (["-d,"], lambda line: field(line, 1, ","), "in field 1")]
@@ -214,7 +214,7 @@ def parts(program, folder):
     places += [(["--after", "DST="], lambda line: value_after(line, "DST="), "after DST=")]
     for name, lines in logs(random.Random(8)):
         log = "".join(f"{line}\n" for line in lines).encode()
-        for (place, part, told), which in itertools.product(places, ("", "first", "last", "2", "3")):
+        for (place, part, where), which in itertools.product(places, ("", "first", "last", "2", "3")):
             if place[:1] == ["--after"] and not which:
                 continue
             found = lambda line: [one for _, one in of_line(part(line))]
@@ -222,12 +222,12 @@ def parts(program, folder):
             output = wanted(lines, networks, counts, False, False).encode()
             got = unaddressed.run([program, *place, *(["--nth", which] if which else ["-a"]), *lists], input=log, capture_output=True)
             got = (got.stdout, got.stderr, got.returncode)
-            error = b"" if any(counts(line) for line in lines) else lacking(told, which)
+            error = b"" if any(counts(line) for line in lines) else lacking(where, which)
             yield f"{name}, {place}, {which or 'all'}", got == (output, error, 0 if output else 1), got
 
 
-def made_up_runs(program, folder):
-    """Lines of pieces of addresses, and bytes beside them: those that have an address."""
+def random_runs(program, folder):
+    """Lines of pieces of addresses, and bytes next to them: those that have an address."""
     rng = random.Random(5)
     pieces = ["10.1.1.1", "1.2.3", "2001:db8::1", "::", "::ffff:1.2.3.4", "1:2:3:4:5:6:7:8", "255.255.255.255", "256.1.1.1", "01.2.3.4"]
     pieces += [*".:_:. /[]\"=,-@x0a9Gz", ":80", ":65535", ":123456", "outside:", "ip6:", "dad:", "12:34:56", "fe80::1%eth0", "ab", "\t", "\xe9"]
@@ -252,7 +252,7 @@ def network(text):
 def of_stretch(stretch):
     """The network of a stretch of letters, digits, `.`, `:`, `_` and `/`, or its addresses, as networks, with their texts."""
     if stretch.find("/") > 0:
-        for part in (stretch, behind_word(stretch)):
+        for part in (stretch, after_word(stretch)):
             for text in [part] + ([part[:-1]] if part[-1:] in (".", ":") else []):
                 if network(text):
                     return [(text, network(text))]
@@ -282,7 +282,7 @@ def has_all(blocks, one):
 
 
 def network_logs(rng):
-    """Lines with networks in and around those of LISTED, each with what comes before and behind it in logs."""
+    """Lines with networks in and around those of LISTED, each with what comes before and after it in logs."""
     def one():
         kind = rng.randrange(6)
         if kind == 0:
@@ -333,12 +333,12 @@ def networks(program, folder):
 
 
 def formats(program, folder):
-    """The addresses of lines in the shapes of many programs' logs, as the table of PROGRAMS has them."""
-    page = (pathlib.Path(__file__).parent.parent / "docs/PROGRAMS.md").read_text()
-    rows = re.findall(r"^\| ([^|`]+) \| `([^|]+)` \| ([^|]+) \|$", page, re.M)
+    """The addresses of lines in the shapes of many programs' logs, as the table of formats has them."""
+    table = (pathlib.Path(__file__).parent.parent / "examples/cidr_filter/log_formats.tsv").read_text()
+    rows = [row.split("\t") for row in table.splitlines()[1:]]
     yield "the table of formats", len(rows) >= 35, len(rows)
     for name, line, texts in rows:
-        output = "".join(f"{text}\n" for text in re.findall("`([^`]+)`", texts))
+        output = "".join(f"{text}\n" for text in texts.split())
         got = unaddressed.run([program, "-ao", "-e", "0.0.0.0/0", "-e", "::/0"], input=f"{line}\n".encode(), capture_output=True)
         yield f"a line of {name}", got.stdout.decode() == output, got
 

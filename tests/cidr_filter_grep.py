@@ -1,5 +1,5 @@
-"""Rows of `tests/cidr_filter` beside GNU grep, for the options that both have: what is printed, and the status, where
-both select the same lines; and that nothing is read behind the line that ends a log. Each function yields a name,
+"""Rows of `tests/cidr_filter` compared with GNU grep, for the options that both have: what is printed, and the status, where
+both select the same lines; and that nothing is read after the line that ends a log. Each function yields a name,
 whether the row is as it should be, and what was got."""
 
 import itertools
@@ -37,8 +37,8 @@ def counted(options, logs):
     """What `-c` prints of logs of which no line may be selected, of which grep prints nothing."""
     named = "-H" in options or len(logs) > 1 and "-h" not in options
     names = ["(standard input)" if log == "-" else log for log in logs]
-    behind = "\0" if "-Z" in options else ":"
-    return "".join(f"{name}{behind}0\n" if named else "0\n" for name in names).encode()
+    after = "\0" if "-Z" in options else ":"
+    return "".join(f"{name}{after}0\n" if named else "0\n" for name in names).encode()
 
 
 def as_grep(program, folder):
@@ -75,7 +75,7 @@ LEFT = (
 
 
 def left(program, folder):
-    """No read is made behind the line that ends a log: not one that would fail, nor one that would wait."""
+    """No read is made after the line that ends a log: not one that would fail, nor one that would wait."""
     for words, given, output, status in LEFT:
         command = [program, *words.split(), "-e", "10.0.0.0/8"]
         for fails in (True, False):

@@ -88,15 +88,15 @@ def every_byte(program, folder):
             wanted = (b"", 2) if refused else ("".join(inside).encode(), 0 if inside else 1)
             output, error, status = run([program, "-f", "byte"], log, folder)
             lines = error.splitlines()
-            told = [line for line in lines if line.startswith(b"cidr_filter: byte:") and b": refused " in line]
-            told = len(lines) == len(told) == refused
-            wrong += [] if (output, status) == wanted and told else [(byte, output, error, status)]
+            reported = [line for line in lines if line.startswith(b"cidr_filter: byte:") and b": refused " in line]
+            reported = len(lines) == len(reported) == refused
+            wrong += [] if (output, status) == wanted and reported else [(byte, output, error, status)]
         yield f"each byte {place} an entry", not wrong, wrong
 
 
 def prefix_lengths(program, folder):
     """A network of each prefix length of both families: its first and last address are in it, and
-    those beside it are not."""
+    those next to it are not."""
     rng = random.Random(2)
     wrong = []
     for kind, width in ((ipaddress.IPv4Network, 32), (ipaddress.IPv6Network, 128)):
@@ -234,7 +234,7 @@ def in_parts(program, folder):
             whole = of_made_log([program, *options.split()], folder)
             output, error, status = of_made_log([IN_PARTS, *options.split()], folder, **others)
             # Each part tells of its own lines without an address.
-            error = unaddressed.TOLD.sub(b"", error)
+            error = unaddressed.REPORTED.sub(b"", error)
             parts = output, b"".join(dict.fromkeys(error.splitlines(True))), status
             yield f"{options}, in parts", parts == whole, parts[1:]
         got = run([IN_PARTS, "-c", "-f", "made"], b"", folder, **others)
@@ -276,8 +276,8 @@ def stretches(program, folder):
             words = f"-f list {options} {more}".split()
             got = run([program, *words], short if 0 in kinds else given, folder)
             last = selected[int(words[-1]) - 1][0] if "-m" in words else len(log)
-            told = (b"cidr_filter: -:%d: line too long\n" % long, 2) if 0 < long <= last else (b"", 0)
-            yield f"{words} < stretches", got == (wanted, *told), got[1:]
+            reported = (b"cidr_filter: -:%d: line too long\n" % long, 2) if 0 < long <= last else (b"", 0)
+            yield f"{words} < stretches", got == (wanted, *reported), got[1:]
         words = [program, *f"-f list {options}".split()]
         with open(os.path.join(folder, "stretches"), "wb") as log:
             log.write(short if 0 in kinds else given)
@@ -290,4 +290,4 @@ def stretches(program, folder):
         log = b"".join(line for _, line in ended[:at]) + b"- refused\n" + b"".join(line for _, line in ended[at:])
         wanted = b"".join(line for first, line in ended[:at] if first == 10)
         got = run([program, *"-f list --bad stop".split()], log, folder)
-        yield f"stretches, stopped behind {at}", got == (wanted, b"cidr_filter: -:%d: refused address\n" % (at + 1), 2), got[1:]
+        yield f"stretches, stopped after {at}", got == (wanted, b"cidr_filter: -:%d: refused address\n" % (at + 1), 2), got[1:]

@@ -17,7 +17,7 @@ NAMES = [
     ("log\u202egol\u200b\u2019".encode(), b"log\\xe2\\x80\\xaegol\\xe2\\x80\\x8b\xe2\x80\x99"),
 ]
 LONG = b"10.0.0.1\n" + b"x" * 1048577 + b"\n"
-# What stands at the name (bytes, a folder, nothing, or a file of which each read fails), the options before
+# What is at the name (bytes, a folder, nothing, or a file of which each read fails), the options before
 # it, what is printed, what is reported after it, and the status.
 ROWS = [
     (None, "-f list", b"", b": cannot open: no such file", 2),
@@ -57,19 +57,19 @@ def in_messages(program, folder):
             put(path, what)
             words = [program, *options.split(), name] + (["log"] if options == "-f" else [])
             got = unaddressed.run(words, cwd=folder, capture_output=True)
-            told = b"cidr_filter: " + shown + cause + b"\n" if cause else b""
+            reported = b"cidr_filter: " + shown + cause + b"\n" if cause else b""
             got = (got.stdout, got.stderr, got.returncode)
-            yield f"{options} {name}", got == (printed.replace(b"NAME", name), told, status), got
+            yield f"{options} {name}", got == (printed.replace(b"NAME", name), reported, status), got
         put(path, b"10.0.0.1\n")
         with open(path, "ab") as output:
             how = {"stdout": output, "stderr": subprocess.PIPE, "preexec_fn": limits.small_files}
             got = unaddressed.run([program, "-f", "list", name], cwd=folder, **how)
-        told = b"cidr_filter: " + shown + b": input file is also the output\n"
-        yield f"-f list {name} >> {name}", (got.stderr, got.returncode) == (told, 2), got
+        reported = b"cidr_filter: " + shown + b": input file is also the output\n"
+        yield f"-f list {name} >> {name}", (got.stderr, got.returncode) == (reported, 2), got
         os.unlink(path)
         got = unaddressed.run([program, "-f", "list", "--after", name, "log"], cwd=folder, capture_output=True)
-        told = b"cidr_filter: log: no line has an address after " + shown + b"\n"
-        yield f"--after {name}", (got.stdout, got.stderr, got.returncode) == (b"", told, 1), got
+        reported = b"cidr_filter: log: no line has an address after " + shown + b"\n"
+        yield f"--after {name}", (got.stdout, got.stderr, got.returncode) == (b"", reported, 1), got
 
 
 # Words of which one is not UTF-8, what is printed and reported, and the status: as a log it is reported, and the others
@@ -88,7 +88,7 @@ NOT_UTF8 = [
 
 
 def not_utf8(program, folder, usage):
-    for words, printed, told, status in NOT_UTF8:
+    for words, printed, reported, status in NOT_UTF8:
         got = limits.run([program, *words], cwd=folder, capture_output=True)
-        wanted = printed, told.replace(b"USAGE", usage), status
+        wanted = printed, reported.replace(b"USAGE", usage), status
         yield f"{words}", (got.stdout, got.stderr, got.returncode) == wanted, got

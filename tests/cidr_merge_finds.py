@@ -1,14 +1,15 @@
-"""Rows of `tests/cidr_merge` for `find`, beside Python's `ipaddress`: a name, what a run gave and what is wanted, which is
-the status, standard output and standard error."""
+"""Rows of `tests/cidr_merge` for `find`, compared with Python's `ipaddress`: a name, what a run gave and what is wanted, which
+is the status, standard output and standard error."""
 
 import ipaddress
 import os
 import random
+import re
 import subprocess
 
 import limits
 
-# A comment that begins with an entry, which is refused behind another.
+# A comment that begins with an entry, which is refused after another.
 SECOND = " ;# 10.0.0.1"
 KINDS = {4: ipaddress.IPv4Address, 6: ipaddress.IPv6Address}
 
@@ -45,8 +46,8 @@ def some_line(dice):
         last = KINDS[address.version](min(int(address) + dice.randrange(64), 2**address.max_prefixlen - 1))
         ends = address, last
         text = f"{address}{dice.choice(('-', ' - '))}{last}"
-    behind = dice.choice(("", "\t", " # was 10.0.0.1", ";x", SECOND))
-    return dice.choice(("", " ")) + text + behind, False if behind == SECOND else ends
+    after = dice.choice(("", "\t", " # was 10.0.0.1", ";x", SECOND))
+    return dice.choice(("", " ")) + text + after, False if after == SECOND else ends
 
 
 def some_sought(dice):
@@ -58,8 +59,8 @@ def some_sought(dice):
     return str(net), net
 
 
-def told(ends, text, net):
-    """What is told of an entry with these ends for the text of a network: nothing if they share no address."""
+def reported(ends, text, net):
+    """What is printed of an entry with these ends for the text of a network: nothing if they share no address."""
     if ends[0].version != net.version or ends[1] < net[0] or net[-1] < ends[0]:
         return None
     if ends[0] <= net[0] and net[-1] <= ends[1]:
@@ -78,7 +79,7 @@ def cause(line):
 
 
 def finds(program, folder):
-    """Made-up lists that are searched for made-up addresses and networks, of words and of a file."""
+    """Random lists that are searched for random addresses and networks, of words and of a file."""
     for seed in range(200):
         dice = random.Random(seed)
         sought = [some_sought(dice) for _ in range(dice.choice((dice.randrange(1, 6), dice.randrange(1, 300))))]
@@ -92,14 +93,16 @@ def finds(program, folder):
                 if ends is False:
                     error += f"{name}:{number}: refused {cause(line)}: {line}\n"
                 elif ends:
-                    words = [told(ends, *one) for one in sought]
+                    words = [reported(ends, *one) for one in sought]
                     output += "".join(f"{name}:{number}: {word}: {line}\n" for word in words if word)
         cut = dice.randrange(len(sought) + 1)
         with open(os.path.join(folder, "sought"), "w") as file:
             file.write("".join(f"{text}\n" for text, _ in sought[cut:]))
         words = ["find", *(text for text, _ in sought[:cut]), *(["--from", "sought"] if cut < len(sought) else []), "--", *names]
         status = 2 if error else 0 if output else 1
-        yield f"find, seed {seed}", run(program, words, folder), (status, output.encode(), error.encode())
+        got = run(program, words, folder)
+        without_advice = re.sub(rb" \(write [^)\n]*\)$", b"", got[2], flags=re.M)
+        yield f"find, seed {seed}", (*got[:2], without_advice), (status, output.encode(), error.encode())
 
 
 def in_one_block(count):

@@ -1,5 +1,5 @@
-"""Rows of `tests/cidr_merge` for `free`, beside Python's `ipaddress`: a name, what a run gave and what is wanted, which is the
-status, standard output and standard error."""
+"""Rows of `tests/cidr_merge` for `free`, compared with Python's `ipaddress`: a name, what a run gave and what is wanted, which
+is the status, standard output and standard error."""
 
 import ipaddress
 import os
@@ -13,6 +13,8 @@ USAGE = b"\nusage: "
 REFUSED = b"used:2: refused address: x\n"
 NONE_FREE = b"no network of this length is free\n"
 BOTH = b"the FILEs before the -- have addresses of both families: see -4 and -6\n"
+NO_POOL = b"the FILEs before the -- have no address\n"
+NO_V6_POOL = b"the FILEs before the -- have no address of IPv6, and IPv4 has no network of this length\n"
 NONE_USED = b"the FILEs after the -- have no address of the family of the pools: see --allow-empty\n"
 
 
@@ -34,7 +36,7 @@ def free_of(pools, used, length):
     return [part for net in left if net.prefixlen <= length <= net.max_prefixlen for part in net.subnets(new_prefix=length)]
 
 
-def made_up(rng):
+def random_case(rng):
     """Pools and used networks of a family, close to each other, also at both ends of the family, and a prefix length."""
     kind, bits = rng.choice(((ipaddress.IPv4Network, 32), (ipaddress.IPv6Network, 128)))
     spread = rng.choice((2, 6, 12))
@@ -63,7 +65,11 @@ ROWS = [
     ("--prefix 25 --all", "10.0.0.0/24", "10.0.0.0/8", 1, b"", NONE_FREE),
     ("--prefix 24", "10.0.0.0/24", "10.0.0.255", 1, b"", NONE_FREE),
     ("--prefix 23", "10.0.0.0/24", "10.0.1.0", 1, b"", NONE_FREE),
-    ("--prefix 33", "10.0.0.0/24", "10.0.1.0", 2, b"", NONE_USED),
+    ("--prefix 33", "10.0.0.0/24", "10.0.1.0", 2, b"", NO_V6_POOL),
+    ("--prefix 33", "10.0.0.0/24", "", 2, b"", NO_V6_POOL),
+    ("--prefix 33", "", "::1", 1, b"", NONE_FREE),
+    ("--prefix 24", "", "10.0.1.0", 2, b"", NO_POOL),
+    ("--prefix 24 -6", "10.0.0.0/24", "10.0.1.0", 2, b"", NO_POOL),
     ("--prefix 33", "10.0.0.0/24", "10.0.1.0\n::1\n", 1, b"", NONE_FREE),
     ("--prefix 0", "0.0.0.0/0", "::1", 2, b"", NONE_USED),
     ("--prefix 0 --allow-empty", "0.0.0.0/0", "::1", 0, b"0.0.0.0/0\n", b""),
@@ -97,9 +103,8 @@ ROWS = [
     ("--prefix +26 --line-prefix net= --line-suffix ;", "10.0.0.0/24", "10.0.0.0/25", 0, b"net=10.0.0.128/26;\n", b""),
 ]
 
-# Words that are refused, with what is told of them.
+# Words that are refused, with what is reported of them.
 WRONG = [
-    ("free -e 10.0.0.0/8 -- used", b"free: no --prefix N"),
     ("free --prefix 129 -e 10.0.0.0/8 -- used", b"--prefix: 129: not a prefix length, 0 to 128"),
     ("free --prefix 24 --prefix 24 -e 10.0.0.0/8 -- used", b"--prefix: given twice"),
     ("free --prefix 24 -e 10.0.0.0/8", b"free: no -- with a FILE after it"),
@@ -120,10 +125,10 @@ def free(program, folder):
         if wanted[2] is None:
             got[2] = None
         yield f"free {words} {pools!r} -- {used!r}", tuple(got), tuple(wanted)
-    for words, told in WRONG:
+    for words, reported in WRONG:
         status, output, error = run(program, words.split(), folder)
-        is_told = error.startswith(b"cidr_merge: " + (told or b"")) and USAGE in error
-        yield words, (status, output, is_told), (2, b"", True)
+        is_reported = error.startswith(b"cidr_merge: " + (reported or b"")) and USAGE in error
+        yield words, (status, output, is_reported), (2, b"", True)
     yield "a ledger that is not there", run(program, "free --prefix 24 -e 10.0.0.0/8 -- none".split(), folder), (2, b"", b"none: cannot open: no such file\n")
     yield "a pool that is not there", run(program, "free --prefix 24 none -- used".split(), folder), (2, b"", b"none: cannot open: no such file\n")
     with open("/dev/full", "wb") as full:
@@ -131,7 +136,7 @@ def free(program, folder):
         done = limits.run([program, *asked.split()], cwd=folder, stdout=full, stderr=subprocess.PIPE)
     yield f"{asked} with a full device", (done.returncode, None, done.stderr), (2, None, b"write error\nstandard output: no space left on device\n")
     for seed in range(300):
-        pools, used, length = made_up(random.Random(seed))
+        pools, used, length = random_case(random.Random(seed))
         for name, nets in (("pools", pools), ("used", used)):
             with open(os.path.join(folder, name), "wb") as file:
                 file.write(lines(nets))

@@ -1,5 +1,5 @@
-"""Rows of `tests/cidr_merge` for `overlaps`, beside Python's `ipaddress`: a name, what a run gave and what is wanted, which is
-the status, standard output and standard error."""
+"""Rows of `tests/cidr_merge` for `overlaps`, compared with Python's `ipaddress`: a name, what a run gave and what is wanted,
+which is the status, standard output and standard error."""
 
 import ipaddress
 import os
@@ -48,7 +48,7 @@ def has_host_bits(line):
 
 
 def overlaps(program, folder):
-    """Made-up lists, with many entries that overlap and with few."""
+    """Random lists, with many entries that overlap and with few."""
     for seed in range(200):
         dice = random.Random(seed)
         wanted = strictly = ""
@@ -66,11 +66,11 @@ def overlaps(program, folder):
                     if has_host_bits(line):
                         strictly += f"{name}:{number}: host bits: {line}\n"
                     entries.append((f"{name}:{number}", ends, len(entries)))
-        told = wanted + "".join(pairs(entries))
-        yield f"overlaps, seed {seed}", run(program, ["overlaps", *names], folder), (1 if told else 0, told.encode(), b"")
-        told = strictly + "".join(one_each(entries))
+        reported = wanted + "".join(pairs(entries))
+        yield f"overlaps, seed {seed}", run(program, ["overlaps", *names], folder), (1 if reported else 0, reported.encode(), b"")
+        reported = strictly + "".join(one_each(entries))
         words = ["check", "--strict", *names]
-        yield f"check --strict, seed {seed}", run(program, words, folder), (1 if told else 0, told.encode(), b"")
+        yield f"check --strict, seed {seed}", run(program, words, folder), (1 if reported else 0, reported.encode(), b"")
     lines = "".join(f"10.{n >> 16}.{n >> 8 & 255}.{n & 255}\n" for n in range(300000))
     with open(os.path.join(folder, "one"), "w") as file:
         file.write(lines + "10.0.0.0/32\n")

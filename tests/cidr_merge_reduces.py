@@ -1,5 +1,5 @@
-"""Rows of `tests/cidr_merge` for `reduce`, beside a joining by Python's `ipaddress` that tries each pair of neighbours: a name,
-what a run gave and what is wanted, which is the status, standard output and standard error."""
+"""Rows of `tests/cidr_merge` for `reduce`, compared with a joining by Python's `ipaddress` that tries each pair of neighbours:
+a name, what a run gave and what is wanted, which is the status, standard output and standard error."""
 
 import ipaddress
 import os
@@ -40,7 +40,7 @@ def allowed(bound, nets):
     return int((bound or "100%")[:-1]) * sum(net.num_addresses for net in least(nets)) // 100
 
 
-def told(v4, v6):
+def report(v4, v6):
     return f"{v4:,} other addresses of IPv4, {v6:,} of IPv6\n".encode()
 
 
@@ -56,10 +56,10 @@ def ends(nets, most, bound):
     error = b"".join(over(f"IPv{version}", left[version][1], most[version]) for version in (4, 6) if left[version][1] > most[version])
     if error:
         return 2, b"", error
-    return 0, "".join(f"{net}\n" for net in left[4][0] + left[6][0]).encode(), told(left[4][1], left[6][1])
+    return 0, "".join(f"{net}\n" for net in left[4][0] + left[6][0]).encode(), report(left[4][1], left[6][1])
 
 
-def made_up(rng):
+def random_nets(rng):
     """Networks of both families or of one, close to each other or far apart."""
     nets = []
     versions, spread = rng.choice([(4, 6), (4,), (6,)]), rng.choice((2, 6, 30))
@@ -75,24 +75,24 @@ def made_up(rng):
 
 BAD = b"some:3: refused address: x\n"
 BOTH = b"the FILEs have addresses of both families: reduce each, with --ipv4 N --ipv6 N\n"
-NO_NUMBER = b"reduce: no number behind it, and no --most N, --ipv4 N or --ipv6 N"
-NO_BOUND = b": not a number, a number with a % behind it, or any"
+NO_NUMBER = b"reduce: no number of networks: write reduce N, --most N, --ipv4 N or --ipv6 N"
+NO_BOUND = b": not a number, a number with a % after it, or any"
 USAGE = b"\nusage: "
 # The words, the text of the FILE `some`, and the status, standard output and the first lines of standard error.
 ROWS = [
     # as many, more and fewer networks than there are
-    ("--most 3", "10.0.0.0/24\n10.0.2.0/24\n10.0.8.0/24", (0, b"10.0.0.0/24\n10.0.2.0/24\n10.0.8.0/24\n", told(0, 0))),
-    ("--most 18446744073709551616", "10.0.0.0/24", (0, b"10.0.0.0/24\n", told(0, 0))),
-    ("--most 2", "10.0.0.0/24\n10.0.2.0/24\n10.0.8.0/24", (0, b"10.0.0.0/22\n10.0.8.0/24\n", told(512, 0))),
-    ("--most=1 --max-others=any", "10.0.0.0/24\n10.0.2.0/24\n10.0.8.0/24", (0, b"10.0.0.0/20\n", told(3328, 0))),
-    ("--most 1", "", (0, b"", told(0, 0))),
-    ("--most 1", "# nothing", (0, b"", told(0, 0))),
+    ("--most 3", "10.0.0.0/24\n10.0.2.0/24\n10.0.8.0/24", (0, b"10.0.0.0/24\n10.0.2.0/24\n10.0.8.0/24\n", report(0, 0))),
+    ("--most 18446744073709551616", "10.0.0.0/24", (0, b"10.0.0.0/24\n", report(0, 0))),
+    ("--most 2", "10.0.0.0/24\n10.0.2.0/24\n10.0.8.0/24", (0, b"10.0.0.0/22\n10.0.8.0/24\n", report(512, 0))),
+    ("--most=1 --max-others=any", "10.0.0.0/24\n10.0.2.0/24\n10.0.8.0/24", (0, b"10.0.0.0/20\n", report(3328, 0))),
+    ("--most 1", "", (0, b"", report(0, 0))),
+    ("--most 1", "# nothing", (0, b"", report(0, 0))),
     # of several pairs with as few others the first
-    ("--most 3", "10.0.0.1\n10.0.0.2\n10.1.0.1\n10.1.0.2", (0, b"10.0.0.0/30\n10.1.0.1/32\n10.1.0.2/32\n", told(2, 0))),
-    # the number right behind the operation
-    ("2", "10.0.0.0/24\n10.0.2.0/24\n10.0.8.0/24", (0, b"10.0.0.0/22\n10.0.8.0/24\n", told(512, 0))),
-    ("18446744073709551616 --count", "10.0.0.0/24", (0, b"v4 1 256\nv6 0 0\n", told(0, 0))),
-    ("1 -e 10.0.0.3 --ranges", "10.0.0.0", (0, b"10.0.0.0 - 10.0.0.3\n", told(2, 0))),
+    ("--most 3", "10.0.0.1\n10.0.0.2\n10.1.0.1\n10.1.0.2", (0, b"10.0.0.0/30\n10.1.0.1/32\n10.1.0.2/32\n", report(2, 0))),
+    # the number right after the operation
+    ("2", "10.0.0.0/24\n10.0.2.0/24\n10.0.8.0/24", (0, b"10.0.0.0/22\n10.0.8.0/24\n", report(512, 0))),
+    ("18446744073709551616 --count", "10.0.0.0/24", (0, b"v4 1 256\nv6 0 0\n", report(0, 0))),
+    ("1 -e 10.0.0.3 --ranges", "10.0.0.0", (0, b"10.0.0.0 - 10.0.0.3\n", report(2, 0))),
     ("1 none", "10.0.0.0", (2, b"", b"none: cannot open: no such file\n")),
     ("0", "10.0.0.0", (2, b"", b"--most: 0: not a number from 1" + USAGE)),
     ("1k", "10.0.0.0", (2, b"", NO_NUMBER + USAGE)),
@@ -103,56 +103,56 @@ ROWS = [
     ("--most 2", "0.0.0.0/0\n::/0", (2, b"", BOTH)),
     ("--most 1 --skip-bad", "10.0.0.0\n::\nx", (2, b"", BAD + BOTH)),
     ("--ipv4 2 --ipv6 3", "192.0.2.1\n192.0.2.2\n192.0.2.9\n2001:db8:1::/48\n2001:db8:3::/48\n2001:db8:4::/48\n2001:db8:5::/48",
-        (0, b"192.0.2.0/30\n192.0.2.9/32\n2001:db8:1::/48\n2001:db8:3::/48\n2001:db8:4::/47\n", told(2, 0))),
-    ("--ipv6=1 --ipv4=1", "::1\n::2\n10.0.0.1\n10.0.0.2", (0, b"10.0.0.0/30\n::/126\n", told(2, 2))),
-    ("--ipv4 2 --ipv6 1 --max-others any", "0.0.0.0\n255.255.255.255\n::\nffff::", (0, b"0.0.0.0/32\n255.255.255.255/32\n::/0\n", told(0, 2**128 - 2))),
-    ("--ipv4 1 --ipv6 1", "0.0.0.0/0\n::/0", (0, b"0.0.0.0/0\n::/0\n", told(0, 0))),
+        (0, b"192.0.2.0/30\n192.0.2.9/32\n2001:db8:1::/48\n2001:db8:3::/48\n2001:db8:4::/47\n", report(2, 0))),
+    ("--ipv6=1 --ipv4=1", "::1\n::2\n10.0.0.1\n10.0.0.2", (0, b"10.0.0.0/30\n::/126\n", report(2, 2))),
+    ("--ipv4 2 --ipv6 1 --max-others any", "0.0.0.0\n255.255.255.255\n::\nffff::", (0, b"0.0.0.0/32\n255.255.255.255/32\n::/0\n", report(0, 2**128 - 2))),
+    ("--ipv4 1 --ipv6 1", "0.0.0.0/0\n::/0", (0, b"0.0.0.0/0\n::/0\n", report(0, 0))),
     # the number of only one family
-    ("--ipv4 1", "10.0.0.0\n10.0.0.3", (0, b"10.0.0.0/30\n", told(2, 0))),
-    ("--ipv6 1", "::\n::3", (0, b"::/126\n", told(0, 2))),
-    ("--ipv6 1", "", (0, b"", told(0, 0))),
+    ("--ipv4 1", "10.0.0.0\n10.0.0.3", (0, b"10.0.0.0/30\n", report(2, 0))),
+    ("--ipv6 1", "::\n::3", (0, b"::/126\n", report(0, 2))),
+    ("--ipv6 1", "", (0, b"", report(0, 0))),
     ("--ipv4 9", "10.0.0.0\n::", (2, b"", b"the FILEs have addresses of IPv6, too: add --ipv6 N\n")),
     ("--ipv6 9", "10.0.0.0", (2, b"", b"the FILEs have addresses of IPv4, too: add --ipv4 N\n")),
     # as many others as the list has addresses, and one more; a number and a part of these
-    ("1", "10.0.0.0/24\n10.0.2.0/24", (0, b"10.0.0.0/22\n", told(512, 0))),
+    ("1", "10.0.0.0/24\n10.0.2.0/24", (0, b"10.0.0.0/22\n", report(512, 0))),
     ("1", "10.0.0.0/24\n10.0.2.1/25\n10.0.3.0/26\n10.0.3.64/27\n10.0.3.96/28\n10.0.3.112/29\n10.0.3.120/30\n10.0.3.124/31\n10.0.3.126",
         (2, b"", over("IPv4", 513, 511))),
-    ("--most 1 --max-others 512", "10.0.0.0/24\n10.0.2.0/24", (0, b"10.0.0.0/22\n", told(512, 0))),
+    ("--most 1 --max-others 512", "10.0.0.0/24\n10.0.2.0/24", (0, b"10.0.0.0/22\n", report(512, 0))),
     ("--most 1 --max-others=511", "10.0.0.0/24\n10.0.2.0/24", (2, b"", over("IPv4", 512, 511))),
-    ("--most 1 --max-others 100%", "10.0.0.0/24\n10.0.2.0/24", (0, b"10.0.0.0/22\n", told(512, 0))),
+    ("--most 1 --max-others 100%", "10.0.0.0/24\n10.0.2.0/24", (0, b"10.0.0.0/22\n", report(512, 0))),
     ("--most 1 --max-others=99%", "10.0.0.0/24\n10.0.2.0/24", (2, b"", over("IPv4", 512, 506))),
-    ("--most 1 --max-others 0", "10.0.0.0/25\n10.0.0.128/25", (0, b"10.0.0.0/24\n", told(0, 0))),
+    ("--most 1 --max-others 0", "10.0.0.0/25\n10.0.0.128/25", (0, b"10.0.0.0/24\n", report(0, 0))),
     ("--most 1 --max-others 0%", "10.0.0.0\n10.0.0.3", (2, b"", over("IPv4", 2, 0))),
     ("--most 1", "0.0.0.0\n255.255.255.255", (2, b"", over("IPv4", 2**32 - 2, 2))),
     ("--ipv4 1 --ipv6 1 --max-others 3", "10.0.0.0\n10.0.0.7\n::\n::3", (2, b"", over("IPv4", 6, 3))),
     ("--ipv4 1 --ipv6 1", "10.0.0.0/9\n10.192.0.0/10\n::\n::7", (2, b"", over("IPv6", 6, 2))),
     ("--ipv4 1 --ipv6 1", "10.0.0.0\n10.0.0.7\n::\n::7", (2, b"", over("IPv4", 6, 2) + over("IPv6", 6, 2))),
     # the ends of IPv6: 2^128 - 2 others of 2 addresses, and parts of most addresses
-    ("--most 1 --max-others any", "::\nffff:ffff:ffff:ffff:ffff:ffff:ffff:ffff", (0, b"::/0\n", told(0, 2**128 - 2))),
-    (f"--most 1 --max-others {2**128 - 2}", "::\nffff:ffff:ffff:ffff:ffff:ffff:ffff:ffff", (0, b"::/0\n", told(0, 2**128 - 2))),
+    ("--most 1 --max-others any", "::\nffff:ffff:ffff:ffff:ffff:ffff:ffff:ffff", (0, b"::/0\n", report(0, 2**128 - 2))),
+    (f"--most 1 --max-others {2**128 - 2}", "::\nffff:ffff:ffff:ffff:ffff:ffff:ffff:ffff", (0, b"::/0\n", report(0, 2**128 - 2))),
     (f"--most 1 --max-others {2**128 - 3}", "::\nffff:ffff:ffff:ffff:ffff:ffff:ffff:ffff", (2, b"", over("IPv6", 2**128 - 2, 2**128 - 3))),
-    (f"--most 1 --max-others {10**40}", "::\nffff:ffff:ffff:ffff:ffff:ffff:ffff:ffff", (0, b"::/0\n", told(0, 2**128 - 2))),
-    (f"--most 1 --max-others {2**128 - 1}%", "::/121\nffff:ffff:ffff:ffff:ffff:ffff:ffff:ffff", (0, b"::/0\n", told(0, 2**128 - 129))),
+    (f"--most 1 --max-others {10**40}", "::\nffff:ffff:ffff:ffff:ffff:ffff:ffff:ffff", (0, b"::/0\n", report(0, 2**128 - 2))),
+    (f"--most 1 --max-others {2**128 - 1}%", "::/121\nffff:ffff:ffff:ffff:ffff:ffff:ffff:ffff", (0, b"::/0\n", report(0, 2**128 - 129))),
     (f"--most 1 --max-others {10**36 + 99}%", "::\n8000::", (2, b"", over("IPv6", 2**128 - 2, (10**36 + 99) * 2 // 100))),
-    ("--most 1 --max-others 50%", "::/2\n8000::/2\nc000::/2", (0, b"::/0\n", told(0, 2**126))),
+    ("--most 1 --max-others 50%", "::/2\n8000::/2\nc000::/2", (0, b"::/0\n", report(0, 2**126))),
     ("--most 1 --max-others 33%", "::/2\n8000::/2\nc000::/2", (2, b"", over("IPv6", 2**126, 99 * 2**126 // 100))),
-    ("--most 1 --max-others 0%", "::/0", (0, b"::/0\n", told(0, 0))),
+    ("--most 1 --max-others 0%", "::/0", (0, b"::/0\n", report(0, 0))),
     ("--most 1 --max-others 59%", "::/64\n0:0:0:2::/64\n0:0:0:3::/65", (2, b"", over("IPv6", 3 * 2**63, 59 * 5 * 2**63 // 100))),
-    ("--most 1 --max-others 60%", "::/64\n0:0:0:2::/64\n0:0:0:3::/65", (0, b"::/62\n", told(0, 3 * 2**63))),
+    ("--most 1 --max-others 60%", "::/64\n0:0:0:2::/64\n0:0:0:3::/65", (0, b"::/62\n", report(0, 3 * 2**63))),
     # halves are one network, before and after others are joined
-    ("--most 1", "10.0.0.0/25\n10.0.0.128/25", (0, b"10.0.0.0/24\n", told(0, 0))),
-    ("--most 2", "10.0.0.1\n10.0.0.2\n10.0.0.4/30", (0, b"10.0.0.0/29\n", told(2, 0))),
+    ("--most 1", "10.0.0.0/25\n10.0.0.128/25", (0, b"10.0.0.0/24\n", report(0, 0))),
+    ("--most 2", "10.0.0.1\n10.0.0.2\n10.0.0.4/30", (0, b"10.0.0.0/29\n", report(2, 0))),
     # what union takes
-    ("--most 1 --count", "10.0.0.0/24\n10.0.2.0/24", (0, b"v4 1 1024\nv6 0 0\n", told(512, 0))),
-    ("--ranges --most 1", "10.0.0.0/24\n10.0.2.0/24", (0, b"10.0.0.0 - 10.0.3.255\n", told(512, 0))),
-    ("--most 1 --format netmask", "10.0.0.0/24\n10.0.2.0/24", (0, b"10.0.0.0 255.255.252.0\n", told(512, 0))),
-    ("--most 1 --format addresses", "10.0.0.0\n10.0.0.3", (0, b"10.0.0.0\n10.0.0.1\n10.0.0.2\n10.0.0.3\n", told(2, 0))),
-    ("--most 1 --line-prefix < --line-suffix >", "10.0.0.0\n10.0.0.3", (0, b"<10.0.0.0/30>\n", told(2, 0))),
-    ("--most 1 --json", '["10.0.0.0", {"a": "10.0.0.3"}, 7, "x"]', (0, b"10.0.0.0/30\n", told(2, 0))),
-    ("--most 1 -e 10.0.0.3", "10.0.0.0", (0, b"10.0.0.0/30\n", told(2, 0))),
+    ("--most 1 --count", "10.0.0.0/24\n10.0.2.0/24", (0, b"v4 1 1024\nv6 0 0\n", report(512, 0))),
+    ("--ranges --most 1", "10.0.0.0/24\n10.0.2.0/24", (0, b"10.0.0.0 - 10.0.3.255\n", report(512, 0))),
+    ("--most 1 --format netmask", "10.0.0.0/24\n10.0.2.0/24", (0, b"10.0.0.0 255.255.252.0\n", report(512, 0))),
+    ("--most 1 --format addresses", "10.0.0.0\n10.0.0.3", (0, b"10.0.0.0\n10.0.0.1\n10.0.0.2\n10.0.0.3\n", report(2, 0))),
+    ("--most 1 --line-prefix < --line-suffix >", "10.0.0.0\n10.0.0.3", (0, b"<10.0.0.0/30>\n", report(2, 0))),
+    ("--most 1 --json", '["10.0.0.0", {"a": "10.0.0.3"}, 7, "x"]', (0, b"10.0.0.0/30\n", report(2, 0))),
+    ("--most 1 -e 10.0.0.3", "10.0.0.0", (0, b"10.0.0.0/30\n", report(2, 0))),
     # what is refused
     ("--most 1", "10.0.0.0\n10.0.0.3\nx", (2, b"", BAD)),
-    ("--most 1 --skip-bad", "10.0.0.0\n10.0.0.3\nx", (3, b"10.0.0.0/30\n", BAD + told(2, 0))),
+    ("--most 1 --skip-bad", "10.0.0.0\n10.0.0.3\nx", (3, b"10.0.0.0/30\n", BAD + report(2, 0))),
     ("--most 1 none", "10.0.0.0", (2, b"", b"none: cannot open: no such file\n")),
     ("", "10.0.0.0", (2, b"", NO_NUMBER + USAGE)),
     ("--most 0", "10.0.0.0", (2, b"", b"--most: 0: not a number from 1" + USAGE)),
@@ -176,7 +176,7 @@ ROWS = [
 
 
 def reduces(program, folder):
-    """Lists that are reduced: rows by hand, made-up lists, and a long one."""
+    """Lists that are reduced: rows by hand, random lists, and a long one."""
 
     def give(text):
         with open(os.path.join(folder, "some"), "w") as file:
@@ -184,7 +184,7 @@ def reduces(program, folder):
 
     for words, text, wanted in ROWS:
         give(text)
-        # The number stands right behind the operation, or behind its option.
+        # The number is right after the operation, or after its option.
         given = words.strip().split(" ") if words else []
         given = [*given, "some"] if words[:1].isdigit() else ["some", *given]
         status, output, error = run(program, ["reduce", *given], folder)
@@ -193,7 +193,7 @@ def reduces(program, folder):
         yield f"reduce {words} of {text!r}", (status, output, error), wanted
     for seed in range(400):
         rng = random.Random(seed)
-        nets = made_up(rng)
+        nets = random_nets(rng)
         most = {version: rng.choice((1, 2, 3, 5, rng.randrange(1, 40))) for version in (4, 6)}
         bound = rng.choice(("", "any", "any", f"{rng.randrange(200)}%", str(2 ** rng.randrange(70))))
         words = ["reduce", "--ipv4", str(most[4]), "--ipv6", str(most[6]), *(["--max-others", bound] if bound else []), "some"]

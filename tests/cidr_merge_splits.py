@@ -1,5 +1,5 @@
-"""Rows of `tests/cidr_merge` for `split`, beside Python's `ipaddress`: a name, what a run gave and what is wanted, which is
-the status, standard output and standard error."""
+"""Rows of `tests/cidr_merge` for `split`, compared with Python's `ipaddress`: a name, what a run gave and what is wanted, which
+is the status, standard output and standard error."""
 
 import ipaddress
 import itertools
@@ -31,7 +31,7 @@ def first_lines(program, words, folder, data=b""):
         return running.wait(), lines, running.stderr.read()
 
 
-def made_up(rng, shortest=(8, 24), longest=(32, 128)):
+def random_nets(rng, shortest=(8, 24), longest=(32, 128)):
     """Networks of both families, close to each other."""
     nets = []
     for _ in range(rng.randrange(1, 30)):
@@ -62,14 +62,14 @@ def splits(program, folder):
     """Lists that are split, and the first of more networks than anybody reads."""
     for seed in range(120):
         rng = random.Random(seed)
-        nets = made_up(rng)
+        nets = random_nets(rng)
         length = rng.choice((rng.randrange(129), rng.randrange(16, 30)))
-        with open(os.path.join(folder, "made_up"), "w") as file:
+        with open(os.path.join(folder, "random_nets"), "w") as file:
             file.write("".join(f"{net}\n" for net in nets))
         is_many = sum(size(net, length) for net in least(nets)) > MANY
         parts = itertools.islice((part for net in least(nets) for part in cut(net, length)), FIRST if is_many else None)
         wanted = (141 if is_many else 0, "".join(f"{part}\n" for part in parts).encode(), b"")
-        got = (first_lines if is_many else run)(program, ["split", "--prefix", str(length), "made_up"], folder)
+        got = (first_lines if is_many else run)(program, ["split", "--prefix", str(length), "random_nets"], folder)
         yield f"split --prefix {length}, seed {seed}", got, wanted
     for nets, length, count in [
         ("0.0.0.0/0", 19, 2**19),
@@ -78,25 +78,25 @@ def splits(program, folder):
         ("0.0.0.0/12\n0.240.0.0/13\n", 32, 2**20 + 2**19),
         ("10.0.0.0-10.15.66.64", 32, 1000001),
     ]:
-        with open(os.path.join(folder, "made_up"), "w") as file:
+        with open(os.path.join(folder, "random_nets"), "w") as file:
             file.write(nets)
-        status, output, error = run(program, ["split", "--prefix", str(length), "made_up"], folder)
+        status, output, error = run(program, ["split", "--prefix", str(length), "random_nets"], folder)
         got = status, len(output.splitlines()), error
         yield f"split --prefix {length} of {nets!r}", got, (0, count, b"")
     got = first_lines(program, ["split", "--prefix", "128", "-"], folder, b"::/0\n")
     yield "split of every address", got, (141, "".join(f"{ipaddress.ip_address('::') + n}/128\n" for n in range(FIRST)).encode(), b"")
-    with open(os.path.join(folder, "made_up"), "w") as file:
+    with open(os.path.join(folder, "random_nets"), "w") as file:
         file.write("10.0.0.0/8\nx\n")
-    refused = b"made_up:2: refused address: x\n"
+    refused = b"random_nets:2: refused address: x\n"
     for words, wanted in [
-        ("split --prefix 9 made_up", (2, b"", refused)),
-        ("split --prefix 9 --skip-bad made_up", (3, b"10.0.0.0/9\n10.128.0.0/9\n", refused)),
-        ("split --skip-bad --prefix 9 made_up", (3, b"10.0.0.0/9\n10.128.0.0/9\n", refused)),
-        ("split --skip-bad --prefix +009 made_up", (3, b"10.0.0.0/9\n10.128.0.0/9\n", refused)),
+        ("split --prefix 9 random_nets", (2, b"", refused)),
+        ("split --prefix 9 --skip-bad random_nets", (3, b"10.0.0.0/9\n10.128.0.0/9\n", refused)),
+        ("split --skip-bad --prefix 9 random_nets", (3, b"10.0.0.0/9\n10.128.0.0/9\n", refused)),
+        ("split --skip-bad --prefix +009 random_nets", (3, b"10.0.0.0/9\n10.128.0.0/9\n", refused)),
         ("split --prefix 9 none", (2, b"", b"none: cannot open: no such file\n")),
         ("split --prefix 9 .", (2, b"", b".: cannot open: is a directory\n")),
     ]:
         yield words, run(program, words.split(), folder), wanted
     with open("/dev/full", "wb") as full:
-        done = limits.run([program, *"split --prefix 9 --skip-bad made_up".split()], cwd=folder, stdout=full, stderr=subprocess.PIPE)
+        done = limits.run([program, *"split --prefix 9 --skip-bad random_nets".split()], cwd=folder, stdout=full, stderr=subprocess.PIPE)
     yield "split with a full device", (done.returncode, None, done.stderr), (2, None, refused + b"write error\nstandard output: no space left on device\n")

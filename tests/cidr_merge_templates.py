@@ -29,7 +29,7 @@ def run(program, words, folder):
 
 
 def around(before, lines, after):
-    """Lines with these texts around each, behind the sign of `differ`."""
+    """Lines with these texts around each, after the sign of `differ`."""
     first, last = (re.sub(r"[\\/&\n]", r"\\\g<0>", text) for text in (before, after))
     script = f"s/^\\([<>] \\)\\{{0,1\\}}\\(.*\\)$/\\1{first}\\2{last}/"
     return subprocess.run(["sed", script], input=lines.encode(), stdout=subprocess.PIPE, check=True).stdout

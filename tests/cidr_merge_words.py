@@ -1,5 +1,5 @@
 """Rows of `tests/cidr_merge` for which words are right: a name, what a run gave and what is wanted, which is whether the
-words were refused, and then nothing but the usage is told. Which are right is computed from the tables of the page."""
+words were refused, and then nothing but the usage is printed. Which are right is computed from the tables of the page."""
 
 import itertools
 import os
@@ -13,7 +13,7 @@ READ = ["-e 10.0.0.1", "--skip-bad", "--json", "--strict"]
 FORMS = [f"--format {form}" for form in "plain range netmask wildcard csv nft ipset json addresses".split()]
 PRINTED = [*READ, "--ranges", "--count", *FORMS, "--set b", "--table b", "--maxelem 9", *LINES, "--allow-empty", "--at-least 9"]
 COUNTED = ["--most 9", "--ipv4 9", "--ipv6 9", "--max-others any"]
-OPTIONS = [*PRINTED, *COUNTED, "--max-change 9%", "--prefix 24", "--all", "--from halves"]
+OPTIONS = [*PRINTED, *COUNTED, "--max-change 9%", "--prefix 24", "--all", "--hosts 9", "--usage", "--from halves"]
 
 # The operations with one FILE or more, and the options that each takes.
 TASKS = {
@@ -27,7 +27,7 @@ TASKS = {
     "check f": ["-e 10.0.0.1", "--strict"],
     "overlaps f": ["-e 10.0.0.1"],
     "find ::1 -- f": ["-e 10.0.0.1", "--from halves"],
-    "free f -- f": [*READ, *LINES, "--allow-empty", "--prefix 24", "--all"],
+    "free f -- f": [*READ, *LINES, "--allow-empty", "--prefix 24", "--all", "--hosts 9", "--usage"],
 }
 
 
@@ -42,7 +42,10 @@ def are_right(task, options):
         all(option in TASKS[task] for option in options),
         len(forms) < 2,
         not any(words.count(word) > 1 for word in words if " " in options[words.index(word)] and word != "-e"),
-        "--prefix" in words or name not in ("split", "free"),
+        "--prefix" in words or name != "split",
+        {"--prefix", "--hosts", "--usage"} & set(words) or name != "free",
+        len({"--prefix", "--hosts", "--usage"} & set(words)) < 2,
+        "--all" not in words or not {"--hosts", "--usage"} & set(words),
         {"--most", "--ipv4", "--ipv6"} & set(words) or name != "reduce",
         not {"--allow-empty", "--at-least"} <= set(words),
         "--most" not in words or not {"--ipv4", "--ipv6"} & set(words),

@@ -115,6 +115,6 @@ def tried(program):
                 limits = [] if f.read(2) == b"#!" else [4, 3]
             for files in limits:
                 got = run(program, words, given, folder, files=files)
-                # Beside the three streams there is one file at a time. The loader too needs one, to find libraries.
+                # In addition to the three streams there is one file at a time. The loader too needs one, to find libraries.
                 is_unopened = files == 3 and got[0] == b"" and got[1] != b"" and got[2] in (faults(name)[2], 127)
                 yield f"{name} {words}, with {files} files at most", is_unopened or got == (output, b"", status), got

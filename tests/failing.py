@@ -1,6 +1,6 @@
-"""Which tests fail of wrong bodies, for `tests/edits`: by cargo on plain Rust, or by `rt try --test`.
+"""Which tests fail of mutants, for `tests/edits`: with cargo on plain Rust, or by `rt try --test`.
 
-scripts/plain writes the crates of rust.txt once, with their unit tests. Of each wrong body it writes again the files
+scripts/plain writes the crates of rust.txt once, with their unit tests. Of each mutant it writes again the files
 that this one changes, and cargo compiles what they change.
 """
 
@@ -19,10 +19,10 @@ import time
 
 import limits
 from refusing import edited, first_error, progress, ran
-from wrong_bodies import ROOT, NotJudged, crates_above, has_tests
+from mutants import ROOT, NotJudged, crates_above, has_tests
 
 DEBIAN = pathlib.Path(os.environ.get("CARGO_DEBIAN", "/usr/share/cargo/registry"))
-# Wrong bodies may be such as rustc refuses by a lint.
+# Mutants may be such as rustc refuses by a lint.
 LINTS = "-A warnings -A arithmetic_overflow -A unconditional_panic -A overflowing_literals"
 # With opt-level=1 the tests take a tenth of their time, but compiling takes two to six times as long.
 WORKSPACE = """[workspace]
@@ -129,22 +129,22 @@ class PlainBuild:
         return self.programs[package]
 
     def learn(self, package):
-        """Sees which tests a package has, that all pass as it stands, and how long they take."""
+        """Sees which tests a package has, that all pass as it is, and how long they take."""
         edit = self.edit
         self.put(None)
         try:
             program = self.built(package)
         except NotJudged as why:
             hint = "" if registry() else "; serde_json is of crates.io, or of Debian's package librust-serde-json-dev"
-            sys.exit(f"tests/edits: {package} as it stands: {why}{hint}")
+            sys.exit(f"tests/edits: {package} without edits: {why}{hint}")
         self.tests[package] = re.findall(r"^(\S+): test$", said_of(program, ["--list"], limits.seconds()), re.M)
         for crate in self.layout.packages[package]:
             began = time.monotonic()
             if failed := failed_of(program, list(self.names_of(crate)), limits.seconds()):
-                sys.exit(f"tests/edits: {crate} as it stands: {failed[0]} fails")
-            # A wrong body may be slower, and so may the machine.
+                sys.exit(f"tests/edits: {crate} without edits: {failed[0]} fails")
+            # A mutant may be slower, and so may the machine.
             self.limits[crate] = 5 + 10 * (time.monotonic() - began)
-        progress(f"{package} as it stands: {len(self.tests[package])} tests pass")
+        progress(f"{package} without edits: {len(self.tests[package])} tests pass")
         self.put(edit)
 
     def names_of(self, crate):
@@ -154,7 +154,7 @@ class PlainBuild:
         return {it: "tests::" + it.removeprefix(head) for it in tests if it.startswith(head)}
 
     def failed(self, crate, names=None):
-        """The tests of a crate that fail as it stands in the folder: of these names, if there are any."""
+        """The tests of a crate that fail as it is in the folder: of these names, if there are any."""
         package = self.layout.package_of[crate]
         if package not in self.tests:
             self.learn(package)
@@ -164,8 +164,9 @@ class PlainBuild:
 
 
 def of_a_member(manifest):
-    """A manifest of the workspace: all features are the default, so that a package is compiled alike for all others."""
-    manifest = manifest.replace("[workspace]\n", "").partition("[profile.")[0]
+    """A manifest of the workspace: all features are the default, so that a package is compiled alike for all others. LINTS
+    takes the place of the workspace's own lints."""
+    manifest = re.sub(r"^\[workspace\]\n|^\[lints\]\nworkspace = true\n", "", manifest, flags=re.M).partition("[profile.")[0]
     head, mark, rest = manifest.partition("[features]\n")
     rest = re.sub(r"^default = .*\n", "", rest, flags=re.M)
     features = re.findall(r"^(\w+) = \[", rest.partition("\n[")[0], re.M)

@@ -5,7 +5,10 @@ import functools
 import os
 import pathlib
 import shutil
+import signal
 import subprocess
+import tempfile
+import time
 
 import limits
 from programs import program
@@ -45,7 +48,7 @@ def without_parallel(folder):
     """A PATH with the commands that the scripts need, and no GNU parallel."""
     place = folder / "few commands"
     place.mkdir()
-    for name in ("awk", "bash", "cat", "dirname", "head", "mkdir", "mktemp", "mount", "rm", "sort", "split", "tail", "wc"):
+    for name in ("awk", "bash", "cat", "dd", "dirname", "head", "mkdir", "mktemp", "mount", "nproc", "rm", "sort", "split", "stat", "tail", "wc"):
         (place / name).symlink_to(shutil.which(name))
     return str(place)
 
@@ -54,6 +57,16 @@ def run(command, data=b"", **env):
     """The status of a command, and what it prints."""
     words = [str(word) for word in command]
     ran = limits.run(words, input=data, capture_output=True, env={**os.environ, **SIZES, **env})
+    return ran.returncode, ran.stdout
+
+
+def run_of_file(command, data, **env):
+    """What `run` returns of a command whose standard input is a regular file, which a script cuts by itself."""
+    words = [str(word) for word in command]
+    with tempfile.TemporaryFile() as file:
+        file.write(data)
+        file.seek(0)
+        ran = limits.run(words, stdin=file, capture_output=True, env={**os.environ, "PARALLEL": "--jobs 3", **env})
     return ran.returncode, ran.stdout
 
 
@@ -132,11 +145,64 @@ def failing(scripts, folder, path):
         for size in ("size=4k", "size=256k", *(f"nr_inodes={n}" for n in range(2, 7))) if may_mount() else ():
             got = in_little_room(size, command, data, folder, **env)
             rows.append((f"TMPDIR of {size}", got, whole if got[0] == whole[0] else (2, got[1])))
+        if not shutil.which("parallel", path=path):
+            rows += of_files(command, data, whole, folder, env)
         for what, got, wanted in rows:
             yield f"{name} {' '.join(map(str, words))}: {what}", got, wanted
 
 
-def ends(how, command, data, folder, **env):
+def of_files(command, data, whole, folder, env):
+    """Rows of a script whose input is a regular file."""
+    yield "of a file", run_of_file(command, data, **env), whole
+    yield "of a file, without its first bytes", run_of_rest(command, data, **env), whole
+    for end in ("kill -KILL $$", "exit 3"):
+        yield f"of a file, a part ends by {end}", ends(end, command, data, folder, run_of_file, **env)[:1], (2,)
+    full = ["bash", "-c", '"$@" > /dev/full', "bash", *command]
+    yield "of a file, into a full device", run_of_file(full, data, **env), (2, b"")
+    if may_mount():
+        got = in_little_room("size=4k", command, data, folder, run_of_file, **env)
+        yield "of a file, TMPDIR of 4k", got, whole if got[0] == whole[0] else (2, got[1])
+    yield "of a file, ended by a signal", terminated(command, data, folder, **env), "all processes have ended"
+
+
+def run_of_rest(command, data, **env):
+    """What a script prints of a file of which a line was read before: it begins after that line, as a program does."""
+    text = 'IFS= read -r _ && exec "$@"'
+    return run_of_file(["bash", "-c", text, "bash", *command], b"a line of another reader\n" + data, **env)
+
+
+def terminated(command, data, folder, **env):
+    """Whether the programs that a script has begun end with it, when it gets SIGTERM."""
+    place, note = folder / "sleeping", folder / "begun"
+    place.mkdir(exist_ok=True)
+    for name in ("cidr", "cidr_merge", "cidr_filter", "cidr_join"):
+        body = f'[ -p /dev/stdin ] || exit 0\necho $$ >> "$NOTE"\nexec {shutil.which("sleep")} 60\n'
+        (place / name).write_text(f'#!{shutil.which("bash")}\n{body}')
+        (place / name).chmod(0o755)
+    note.write_text("")
+    with tempfile.TemporaryFile() as file:
+        file.write(data)
+        file.seek(0)
+        own = {"PARALLEL": "--jobs 3", "CIDR_PROGRAMS": str(place), "NOTE": str(note)}
+        quiet = {"stdout": subprocess.DEVNULL, "stderr": subprocess.DEVNULL}
+        script = limits.start([str(word) for word in command], stdin=file, env={**os.environ, **env, **own}, **quiet)
+        begun = until(lambda: len(note.read_text().split()) == 3)
+        script.send_signal(signal.SIGTERM)
+        ended = begun and until(lambda: not any(pathlib.Path("/proc", pid).exists() for pid in note.read_text().split()))
+        script.wait()
+    return "all processes have ended" if ended else f"processes have not ended: {note.read_text().split()}"
+
+
+def until(holds):
+    """Whether something holds within some seconds."""
+    for _ in range(1000):
+        if holds():
+            return True
+        time.sleep(0.01 * limits.slowness())
+    return False
+
+
+def ends(how, command, data, folder, run=run, **env):
     """A script whose program ends by this in its third run, which is one of a part."""
     place, marks = folder / "programs", folder / "marks"
     for name in (place, marks):
@@ -170,7 +236,7 @@ def may_mount():
     return made
 
 
-def in_little_room(size, command, data, folder, **env):
+def in_little_room(size, command, data, folder, run=run, **env):
     """A script whose TMPDIR has little room."""
     place = folder / "little"
     place.mkdir(exist_ok=True)

@@ -110,8 +110,8 @@ def start(words, **how):
 
 @contextlib.contextmanager
 def started(words, **how):
-    """A program that runs beside the block, as with `subprocess.Popen`: a read or write of the block that waits for it comes
-    to an end with it, at the limit, and an error in the block ends it."""
+    """A program that runs while the block does, as with `subprocess.Popen`: a read or write of the block that waits for it
+    comes to an end with it, at the limit, and an error in the block ends it."""
     process = start(words, **how)
     timer = threading.Timer(seconds(), end, [process])
     timer.daemon = True

@@ -17,6 +17,16 @@ PLACES = [
     ("-wa -k -1", {"10.0.0.9 x=10.0.0.1:80": "10.0.0.1", "10.0.0.1 a": ""}),
     ("-k -2 -d ; --nth last", {"10.0.0.9;10.0.0.8, 10.0.0.1;b": "10.0.0.1", "10.0.0.1": ""}),
     ("-k -4294967295 -k -1", {"10.0.0.1": "10.0.0.1"}),
+    # a byte order mark is passed over once, at the start of the first line, as `sed '1s/^\xEF\xBB\xBF//'` removes it
+    ("-k 1", {"\ufeff10.0.0.1 a": "10.0.0.1", "\ufeff10.0.0.1 b": ""}),
+    ("-k 1", {"": "", "\ufeff10.0.0.1": "", "10.0.0.2": "10.0.0.2"}),
+    ("-k 1", {"\ufeff\ufeff10.0.0.1": "", "10.0.0.1": "10.0.0.1"}),
+    ("-k -1", {"\ufeff\r": "", "10.0.0.1": "10.0.0.1"}),
+    ("-k 2 -d ,", {"\ufeff,10.0.0.1": "10.0.0.1", "\ufeff,10.0.0.2": "10.0.0.2"}),
+    ("-w", {"\ufeff \t10.0.0.1 a": "10.0.0.1", "\ufeff\t10.0.0.1": ""}),
+    ("-a", {"\ufeff10.0.0.1:80": "10.0.0.1", "\ufeff10.0.0.2": "10.0.0.2"}),
+    ("--nth 1", {"\ufeff10.0.0.1 10.0.0.2": "10.0.0.1"}),
+    ("--after ip=", {"\ufeffip=10.0.0.1": "10.0.0.1", "ip=x": ""}),
 ]
 
 # Options that are refused, and what is wrong with them.
@@ -51,7 +61,7 @@ def rows(words, shown, usage):
         yield (f"{words} {options}", "".join(f"{line}\n" for line in lines).encode(), "".join(shown(*one) for one in lines.items()).encode(), b"", 0)
     for options, place in LACKING:
         output = shown("10.0.0.1", "").encode()
-        told = usage(b"").split(b":")[0] + f": -: no line has an address {place}\n".encode()
-        yield (f"{words} {options}", b"10.0.0.1\n", output, told, 0 if output else 1)
+        reported = usage(b"").split(b":")[0] + f": -: no line has an address {place}\n".encode()
+        yield (f"{words} {options}", b"10.0.0.1\n", output, reported, 0 if output else 1)
     for options, problem in WRONG:
         yield (words.split(" ") + options, b"", b"", usage(problem.encode()), 2)

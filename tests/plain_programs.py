@@ -53,7 +53,7 @@ def example(name, folder, uses):
 
 
 def example_of(name, folder, crates, more="", profile="release"):
-    """The same, over these crates; the lines `more`, or the crates.txt beside them, say which it uses."""
+    """The same, over these crates; the lines `more`, or the crates.txt next to them, say which it uses."""
     text = "".join(file.read_text() for file in pathlib.Path(folder).iterdir() if file.is_file())
     needs_serde = bool(re.search(r"\bserde_json\b|_value\(", text))
     with workspace(crates, more) as (sources, to):

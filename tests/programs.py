@@ -64,9 +64,9 @@ CAUSES = (rb"address|format|prefix|range|byte order mark|UTF-16 text|gzip data|N
           rb"|second address: with --ranges, FIRST LAST is a range")
 
 
-def with_texts(told, lists):
-    """What is told of refused lines, with the text of each after its cause, by the bytes of the lists of these names. Rows
-    leave the texts out, since they stand in the lists."""
+def with_texts(reported, lists):
+    """What is reported of refused lines, with the text of each after its cause, by the bytes of the lists of these names. Rows
+    leave the texts out, since they are in the lists."""
 
     def full(match):
         begin, name, number, cause = match.groups()
@@ -77,8 +77,8 @@ def with_texts(told, lists):
         text = escaped(line[:64]) + (b".." if len(line) > 64 else b"")
         return b"%s%s:%s: refused %s: %s" % (begin, name, number, cause, text)
 
-    pattern = rb"(?m)^((?:cidr_\w+: )?)(.+?):(\d+): refused (%s)(?=$| \(write )" % CAUSES
-    return re.sub(pattern, full, told)
+    pattern = rb"(?m)^((?:cidr_\w+: )?)(.+?):(\d+): refused (%s)(?=$| \((?:write|--masks) )" % CAUSES
+    return re.sub(pattern, full, reported)
 
 
 def escaped(text):

@@ -54,6 +54,6 @@ def runs_of(repository, run_of, crate_in, inputs, words, files, refused):
         for case, text in inputs.items():
             own = (words or {}).get(case, ())
             ran = once([program, *own], text, data, library, refused)
-            told, _, count = ran.stderr.rpartition("allocations: ")
-            runs[case] = run_of(ran.stdout.rstrip("\n").split("\n"), int(count), told, ran.returncode)
+            reported, _, count = ran.stderr.rpartition("allocations: ")
+            runs[case] = run_of(ran.stdout.rstrip("\n").split("\n"), int(count), reported, ran.returncode)
         return runs

@@ -1,5 +1,5 @@
 /* Refuses one request for memory of a program that is started with this before it (LD_PRELOAD): that of the number in the
- * environment variable REFUSE, counted from the first read of a single byte on. How many there were is told at the end. */
+ * environment variable REFUSE, counted from the first read of a single byte on. How many there were is printed at the end. */
 #define _GNU_SOURCE
 #include <errno.h>
 #include <stdio.h>

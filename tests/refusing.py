@@ -1,4 +1,4 @@
-"""At what `rt check` refuses wrong bodies, for `tests/edits`."""
+"""At what `rt check` refuses mutants, for `tests/edits`."""
 
 import collections
 import contextlib
@@ -9,7 +9,7 @@ import subprocess
 import sys
 import time
 
-from wrong_bodies import ROOT, NotJudged
+from mutants import ROOT, NotJudged
 
 
 def ran(folder, *words):
@@ -54,12 +54,12 @@ def link_or_copy(one, other):
 
 
 def keep(folder):
-    """Sets aside what checks kept of the crate as it stands."""
+    """Sets aside what checks kept of the crate as it is."""
     shutil.copytree(folder / "out/incremental", folder / "out/sound", copy_function=link_or_copy)
 
 
 def said_of_check(folder, functions=()):
-    """What a check says, of these functions alone if there are any. It begins with what was kept of the crate as it stands,
+    """What a check says, of these functions alone if there are any. It begins with what was kept of the crate as it is,
     if something was: over what the check of another edit left, the functions of that one would be proved again."""
     shutil.rmtree(folder / "out/incremental", ignore_errors=True)
     if (folder / "out/sound").exists():
@@ -98,11 +98,11 @@ def is_at_a_step(at):
 
 def checked(edit, copy, is_proved=False):
     """At what the check of the whole crate refuses the edit, or None where it proves the crate with it. The crate is proved
-    as it stands first, for this edit and those that follow, unless that is known and no other edit follows."""
+    as it is first, for this edit and those that follow, unless that is known and no other edit follows."""
     whole = copy / "crates" / edit.crate
     if not is_proved and not (whole / "out/sound").exists():
         if not verdict(ran(whole, "check")):
-            raise NotJudged("the crate is not proved as it stands")
+            raise NotJudged("the crate is not proved without the edit")
         keep(whole)
     with edited(edit, copy) as folder:
         said = said_of_check(folder)
@@ -130,12 +130,12 @@ def checked_together(edits, copy):
     if verdict(said) is not False:
         return {}
     goals, steps = left_open(said)
-    told = {}
+    refused = {}
     for edit in applied:
         own = {at: goals[at] for at in goals if is_of(at, edit)}, {at for at in steps if is_of(at, edit)}
         if any(own):
-            told[edit.name] = refusal(*own)
-    return told
+            refused[edit.name] = refusal(*own)
+    return refused
 
 
 def is_of(path, edit):
@@ -162,12 +162,12 @@ def refusals(edits, copy, unjudged):
     together, until a check tells of none: of a function that calls a changed one, a check says nothing more."""
     found = {}
     while together := apart([it for it in edits if it.name not in found]):
-        told = checked_together(together, copy)
-        for name, at in told.items():
+        refused = checked_together(together, copy)
+        for name, at in refused.items():
             progress(f"{edits[0].crate}/{name}: {at}")
-        if not told:
+        if not refused:
             break
-        found |= told
+        found |= refused
     alone = [it for it in edits if it.name not in found]
     for edit in alone:
         try:

@@ -5,9 +5,9 @@ import re
 
 import limits
 
-TOLD = re.compile(rb"^cidr_filter: ([0-9]+) of ([0-9]+) lines ha(?:s|ve) (?:no address|fewer than [0-9]+ addresses) .*\n", re.M)
+REPORTED = re.compile(rb"^cidr_filter: ([0-9]+) of ([0-9]+) lines ha(?:s|ve) (?:no address|fewer than [0-9]+ addresses) .*\n", re.M)
 
-# Words, what is read, and what is told.
+# Words, what is read, and what is reported.
 ROWS = [
     ("-e 10.0.0.0/8", b"10.0.0.1\nx\n11.0.0.1\n\n", b"cidr_filter: 2 of 4 lines have no address in field 1\n"),
     ("-v -e 10.0.0.0/8", b"10.0.0.1\nx\n", b"cidr_filter: 1 of 2 lines has no address in field 1\n"),
@@ -38,19 +38,19 @@ FILES = {"two": b"x\n::1\n", "none": b"x\n10.0.0\n"}
 
 
 def rows(program, folder):
-    """A name of each row, whether it is as it should be, and what was told."""
+    """A name of each row, whether it is as it should be, and what was reported."""
     for name, content in FILES.items():
         with open(f"{folder}/{name}", "wb") as file:
             file.write(content)
-    for words, given, told in ROWS:
+    for words, given, reported in ROWS:
         got = limits.run([program, *words.split(" ")], input=given, cwd=folder, capture_output=True)
-        yield f"{words}, lines without an address", got.stderr == told, got.stderr
+        yield f"{words}, lines without an address", got.stderr == reported, got.stderr
 
 
 def run(words, **how):
     """A run, without what it tells of such lines."""
     got = limits.run(words, **how)
-    told = TOLD.findall(got.stderr or b"")
-    if len(told) == 1 and 0 < int(told[0][0]) < int(told[0][1]):
-        got.stderr = TOLD.sub(b"", got.stderr)
+    reported = REPORTED.findall(got.stderr or b"")
+    if len(reported) == 1 and 0 < int(reported[0][0]) < int(reported[0][1]):
+        got.stderr = REPORTED.sub(b"", got.stderr)
     return got

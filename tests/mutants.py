@@ -1,4 +1,4 @@
-"""The wrong bodies of mutants/, which has a table for each crate, for `tests/edits`."""
+"""The mutants of mutants/, which has a table for each crate, for `tests/edits`."""
 
 import pathlib
 import re
@@ -15,7 +15,7 @@ class NotJudged(Exception):
 
 
 def read(lines, where):
-    """The texts that an edit changes, each with its file, and what it says besides, by the word before the colon."""
+    """The texts that an edit changes, each with its file, and what else it says, by the word before the colon."""
     pairs, said, file, old = [], {}, None, None
     for line in lines:
         key, _, text = line.partition(":")
@@ -34,7 +34,7 @@ def read(lines, where):
 
 
 class Edit:
-    """A wrong body: the texts that it changes, by file."""
+    """A mutant: the texts that it changes, by file."""
 
     def __init__(self, crate, name, lines):
         self.crate, self.name, self.place = crate, name, f"mutants/{crate}.txt: {name}"
@@ -55,7 +55,7 @@ class Edit:
             path = folder / file
             text = texts.get(path) or (path.read_text() if path.is_file() else "")
             if text.count(old) != 1:
-                raise NotJudged(f"its `old:` stands in {file} {text.count(old)} times")
+                raise NotJudged(f"its `old:` occurs in {file} {text.count(old)} times")
             texts[path] = text.replace(old, new)
         return texts
 
@@ -112,7 +112,7 @@ def code_and_clauses(text):
 
 
 def edits_in(table):
-    """The wrong bodies of a crate's table, in its order."""
+    """The mutants of a crate's table, in its order."""
     texts = re.sub(r"^(#.*)?\n", "", table.read_text(), flags=re.M)
     head, *parts = re.split(r"^== (\w+)\n", texts, flags=re.M)
     if head:
@@ -191,7 +191,7 @@ def crates_below():
 
 
 def crates_above(crate):
-    """The crates with tests that stand on this one, those with the least to compile first."""
+    """The crates with tests that depend on this one, those with the least to compile first."""
     below = crates_below()
     above = [it for it, named in below.items() if crate in named and has_tests(it)]
     return sorted(above, key=lambda it: sum(lines_of(other) for other in [it, *below[it]]))
