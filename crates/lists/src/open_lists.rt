@@ -28,6 +28,8 @@ pub trait OpenLists {
 
     /// Opens the list of this name. The error is the system's.
     ///
+    /// An implementation may refuse a pipe that it opened before, since nothing would be left in it.
+    ///
     /// ```
     /// use lists::OpenLists;
     ///

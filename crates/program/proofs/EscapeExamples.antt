@@ -31,15 +31,26 @@ abbrev is_shown : ℕ → ℕ → (List ℕ → List ℕ) → Type 0
 is_shown first count show = map show (run_of first (count + 2)) ≡ run_of first 1
     ++ map (flat_map coded) (run_of (first + 1) count) ++ run_of (first + count + 1) 1
 
-pub hidden_in_a_line : is_shown 0x61B 1 escaped × is_shown 0x200A 5 escaped × is_shown 0x2027 7 escaped
-    × is_shown 0x205F 16 escaped × is_shown 0xFEFE 1 escaped
-unfolding encode_utf8
-hidden_in_a_line = (refl, refl, refl, refl, refl)
+abbrev hides : (List ℕ → List ℕ) → Type 0
+hides show = is_shown 0xAC 1 show × is_shown 0x34E 1 show × is_shown 0x61B 1 show × is_shown 0x115E 2 show
+    × is_shown 0x17B3 2 show × is_shown 0x180A 5 show × is_shown 0x200A 5 show × is_shown 0x2027 7 show
+    × is_shown 0x205F 16 show × is_shown 0x3163 1 show × is_shown 0xFDFF 16 show × is_shown 0xFEFE 1 show
+    × is_shown 0xFF9F 1 show × is_shown 0xFFEF 12 show × is_shown 0x1BC9F 4 show × is_shown 0x1D172 8 show
 
-pub hidden_in_a_word : is_shown 0x61B 1 escaped_word × is_shown 0x200A 5 escaped_word × is_shown 0x2027 7 escaped_word
-    × is_shown 0x205F 16 escaped_word × is_shown 0xFEFE 1 escaped_word
+pub hidden_in_a_line : hides escaped
 unfolding encode_utf8
-hidden_in_a_word = (refl, refl, refl, refl, refl)
+hidden_in_a_line = (refl, refl, refl, refl, refl, refl, refl, refl, refl, refl, refl, refl, refl, refl, refl, refl)
+
+pub hidden_in_a_word : hides escaped_word
+unfolding encode_utf8
+hidden_in_a_word = (refl, refl, refl, refl, refl, refl, refl, refl, refl, refl, refl, refl, refl, refl, refl, refl)
+
+-- tags and what else is from U+E0000 to U+E0FFF are hidden, the characters around are not
+pub tags_are_hidden : map escaped (map encode_utf8 (0xDFFFF ∷ 0xE0000 ∷ 0xE0041 ∷ 0xE01EF ∷ 0xE0FFF ∷ 0xE1000 ∷ []))
+    ≡ encode_utf8 0xDFFFF ∷ map (flat_map coded) (map encode_utf8 (0xE0000 ∷ 0xE0041 ∷ 0xE01EF ∷ 0xE0FFF ∷ []))
+    ++ encode_utf8 0xE1000 ∷ []
+unfolding encode_utf8
+tags_are_hidden = refl
 
 -- U+0080 to U+009F are hidden, U+00A0 is not
 pub controls_of_utf8 : map escaped (run_of 0x80 33) ≡ map (flat_map coded) (run_of 0x80 32)

@@ -25,6 +25,8 @@ pub enum OpenFault {
     Directory,
     /// It is also the output.
     Output,
+    /// It is a pipe that was opened before.
+    Spent,
     /// There is another cause.
     Other,
 }
@@ -45,6 +47,7 @@ impl OpenFault {
             ErrorKind::PermissionDenied => OpenFault::Denied,
             ErrorKind::IsADirectory => OpenFault::Directory,
             ErrorKind::Deadlock => OpenFault::Output,
+            ErrorKind::NotSeekable => OpenFault::Spent,
             _ => OpenFault::Other,
         }
     }
@@ -62,6 +65,7 @@ impl OpenFault {
             OpenFault::Denied => ": cannot open: permission denied\n",
             OpenFault::Directory => ": cannot open: is a directory\n",
             OpenFault::Output => ": input file is also the output\n",
+            OpenFault::Spent => ": a pipe can be read only once\n",
             OpenFault::Other => ": cannot open\n",
         }
     }

@@ -10,9 +10,10 @@ use fosibegan_core::plain_std::io::Write;
 /// Writes a line with what a terminal obeys or hides escaped: `\x1b` stands for the byte 27.
 ///
 /// Escaped are the control characters, other than the tab; the characters that turn others round,
-/// end a line or are not seen, with each byte that they have in UTF-8 (U+0080 to U+009F, U+061C,
-/// U+200B to U+200F, U+2028 to U+202E, U+2060 to U+206F, U+FEFF); and each byte that is not part
-/// of a character in UTF-8. If a write fails, now or earlier, the rest is lost.
+/// end a line or are not seen, with each byte that they have in UTF-8; and each byte that is not
+/// part of a character in UTF-8. Not seen are those of Unicode's property
+/// Default_Ignorable_Code_Point, such as U+00AD, U+200B and U+E0041, and U+FFF9 to U+FFFB. If a
+/// write fails, now or earlier, the rest is lost.
 ///
 /// ```
 /// # use cidr_programs::in_examples::*;
@@ -78,8 +79,12 @@ fn tell_byte<W: Write>(kept: usize, byte: u8, output: &mut Output<'_, W>) {
 // if it is hidden or there is none.
 fn shown_width(keeps_tabs: bool, bytes: &[u8]) -> usize {
     let first = byte_at(bytes, 0);
-    let hidden = is_hidden(keeps_tabs, first, byte_at(bytes, 1), byte_at(bytes, 2));
-    if hidden { 0 } else { width(bytes) }
+    let (second, third, fourth) = (byte_at(bytes, 1), byte_at(bytes, 2), byte_at(bytes, 3));
+    if is_hidden(keeps_tabs, first, second, third, fourth) {
+        0
+    } else {
+        width(bytes)
+    }
 }
 
 // Returns a byte of some, or 0 after their end.
@@ -124,12 +129,13 @@ fn is_in_range(least: u8, greatest: u8, byte: u8) -> bool {
     least <= byte && byte <= greatest
 }
 
-// Whether the character that three bytes of UTF-8 begin with is hidden.
-fn is_hidden(keeps_tabs: bool, first: u8, second: u8, third: u8) -> bool {
+// Whether the character that four bytes of UTF-8 begin with is hidden.
+fn is_hidden(keeps_tabs: bool, first: u8, second: u8, third: u8, fourth: u8) -> bool {
     is_control(keeps_tabs, first)
-        || first == 0xC2 && second < 0xA0
-        || first == 0xD8 && second == 0x9C
+        || is_hidden_pair(first, second)
         || is_format(first, second, third)
+        || is_special(first, second, third)
+        || is_hidden_four(first, second, third, fourth)
 }
 
 // Whether a byte is a control character of ASCII, and not a tab that is kept.
@@ -137,12 +143,40 @@ fn is_control(keeps_tabs: bool, byte: u8) -> bool {
     byte < 32 && !(keeps_tabs && byte == b'\t') || byte == 127
 }
 
-// Whether three bytes of UTF-8 are a character that hides or turns others.
+// Whether two bytes of UTF-8 are a control character or one that is not seen.
+fn is_hidden_pair(first: u8, second: u8) -> bool {
+    first == 0xC2 && (second < 0xA0 || second == 0xAD)
+        || first == 0xCD && second == 0x8F
+        || first == 0xD8 && second == 0x9C
+}
+
+// Whether three bytes of UTF-8 are a character from U+1000 to U+3FFF that turns others, ends a
+// line or is not seen.
 fn is_format(first: u8, second: u8, third: u8) -> bool {
     let is_general = is_in_range(0x8B, 0x8F, third) || is_in_range(0xA8, 0xAE, third);
-    first == 0xE2 && second == 0x80 && is_general
+    let is_filler = second == 0x85 && is_in_range(0x9F, 0xA0, third)
+        || second == 0x9E && is_in_range(0xB4, 0xB5, third)
+        || second == 0xA0 && is_in_range(0x8B, 0x8F, third);
+    first == 0xE1 && is_filler
+        || first == 0xE2 && second == 0x80 && is_general
         || first == 0xE2 && second == 0x81 && is_in_range(0xA0, 0xAF, third)
-        || first == 0xEF && second == 0xBB && third == 0xBF
+        || first == 0xE3 && second == 0x85 && third == 0xA4
+}
+
+// Whether three bytes of UTF-8 are a character from U+F000 to U+FFFF that is not seen.
+fn is_special(first: u8, second: u8, third: u8) -> bool {
+    let is_unseen = second == 0xB8 && is_in_range(0x80, 0x8F, third)
+        || second == 0xBB && third == 0xBF
+        || second == 0xBE && third == 0xA0
+        || second == 0xBF && is_in_range(0xB0, 0xBB, third);
+    first == 0xEF && is_unseen
+}
+
+// Whether four bytes of UTF-8 are a character that is not seen.
+fn is_hidden_four(first: u8, second: u8, third: u8, fourth: u8) -> bool {
+    let is_step = second == 0x9B && third == 0xB2 && is_in_range(0xA0, 0xA3, fourth);
+    let is_music = second == 0x9D && third == 0x85 && is_in_range(0xB3, 0xBA, fourth);
+    first == 0xF0 && (is_step || is_music) || first == 0xF3 && second == 0xA0
 }
 
 /// Returns the character of a hexadecimal digit.

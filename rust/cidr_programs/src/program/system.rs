@@ -4,14 +4,23 @@
 
 use fosibegan_core::plain_std::rt::HostRuntime;
 use crate::program::progress::Progress;
+use fosibegan_core::plain_std::arrayvec::ArrayVec;
 use crate::lines::watched::Watched;
 use crate::lists::OpenLists;
+use std::cell::RefCell;
 use fosibegan_core::plain_std::fs::{File, Metadata};
 use fosibegan_core::plain_std::io::{ErrorKind, IsTerminal, Read, Stdin};
-use fosibegan_core::plain_std::os::unix::fs::MetadataExt;
+use fosibegan_core::plain_std::os::unix::fs::{FileTypeExt, MetadataExt};
 use fosibegan_core::plain_std::{fs, io};
 
+/// The most pipes that are opened: as many files as Linux lets a process have open, if not asked
+/// for more. They are remembered without memory being asked for.
+const PIPES_MAX: usize = 1_024;
+
 /// The files of the system, where `-` names standard input.
+///
+/// A pipe is opened only once, whatever its names, such as `-` and `/dev/stdin`: what is read of it
+/// is gone, so that it would be empty the next time. The error is of the kind `NotSeekable`.
 ///
 /// ```
 /// # use cidr_programs::in_examples::*;
@@ -24,6 +33,8 @@ use fosibegan_core::plain_std::{fs, io};
 pub struct System<'a> {
     rt: &'a HostRuntime,
     progress: Option<&'a Progress<'a>>,
+    // The device and inode numbers of the pipes that were opened.
+    pipes: RefCell<ArrayVec<(u64, u64), PIPES_MAX>>,
 }
 
 impl<'a> System<'a> {
@@ -38,7 +49,11 @@ impl<'a> System<'a> {
     /// assert!(system.open("no such file").is_err());
     /// ```
     pub fn new(rt: &'a HostRuntime) -> System<'a> {
-        System { rt, progress: None }
+        System {
+            rt,
+            progress: None,
+            pipes: RefCell::new(ArrayVec::new()),
+        }
     }
 
     /// Creates a view of the system's files that counts and shows what is read of them.
@@ -57,7 +72,28 @@ impl<'a> System<'a> {
         System {
             rt,
             progress: Some(progress),
+            pipes: RefCell::new(ArrayVec::new()),
         }
+    }
+
+    // Opens the file of this name, or standard input. A pipe is remembered, and refused if it was
+    // opened before, or if no more can be remembered.
+    fn device_of(&self, name: &str) -> io::Result<Device> {
+        let device = device_of(self.rt, name)?;
+        let Some(pipe) = numbers_of_pipe(metadata_of(self.rt, &device)) else {
+            return Ok(device);
+        };
+        let Ok(mut pipes) = self.pipes.try_borrow_mut() else {
+            return Err(io::Error::from(ErrorKind::NotSeekable));
+        };
+        if pipes.as_slice().contains(&pipe) {
+            return Err(io::Error::from(ErrorKind::NotSeekable));
+        }
+        if pipes.is_full() {
+            return Err(io::Error::from(ErrorKind::QuotaExceeded));
+        }
+        pipes.push(pipe);
+        Ok(device)
     }
 
     // Returns the progress that counts the reading of this file: none if it is typed at a terminal.
@@ -131,24 +167,36 @@ fn is_directory(file: &File) -> bool {
 
 // Returns the device and inode numbers of a regular file, and `None` for anything else, such as a
 // terminal or a pipe.
-fn identity(said: io::Result<Metadata>) -> Option<(u64, u64)> {
+fn numbers_of_file(said: io::Result<Metadata>) -> Option<(u64, u64)> {
     match said {
         Ok(metadata) if metadata.is_file() => Some((metadata.dev(), metadata.ino())),
         _ => None,
     }
 }
 
+// Returns the device and inode numbers of a pipe, and `None` for anything else.
+fn numbers_of_pipe(said: io::Result<Metadata>) -> Option<(u64, u64)> {
+    match said {
+        Ok(metadata) if metadata.file_type().is_fifo() => Some((metadata.dev(), metadata.ino())),
+        _ => None,
+    }
+}
+
+// Returns what the system says of what was opened.
+fn metadata_of(rt: &HostRuntime, device: &Device) -> io::Result<Metadata> {
+    match device {
+        Device::File(file) => file.metadata(),
+        Device::Input(_) => fs::metadata(rt, "/proc/self/fd/0"),
+    }
+}
+
 // Whether what was opened is the regular file that standard output goes to, by what Linux says
 // about open descriptors.
 fn is_output(rt: &HostRuntime, device: &Device) -> bool {
-    let Some(output) = identity(fs::metadata(rt, "/proc/self/fd/1")) else {
+    let Some(output) = numbers_of_file(fs::metadata(rt, "/proc/self/fd/1")) else {
         return false;
     };
-    let input = match device {
-        Device::File(file) => file.metadata(),
-        Device::Input(_) => fs::metadata(rt, "/proc/self/fd/0"),
-    };
-    identity(input) == Some(output)
+    numbers_of_file(metadata_of(rt, device)) == Some(output)
 }
 
 // Opens the file of this name, or standard input.
@@ -168,7 +216,7 @@ impl<'a> OpenLists for System<'a> {
 
     fn open(&self, name: &str) -> io::Result<ShownDevice<'a>> {
         Ok(ShownDevice {
-            device: device_of(self.rt, name)?,
+            device: self.device_of(name)?,
             progress: self.progress_of(name),
         })
     }
