@@ -8,9 +8,10 @@ if here install make pkg-config readelf; then
     rm -f out/cidr.so
     if has_sqlite_header; then make -s -C .. sqlite; fi
     ./check_install
+    if here packages objdump "$python"; then
+        ./check_packages ${plain:+--cargo}
+    fi
     if [ "$plain" ]; then
         skip packages "proved programs"
-    elif here packages objdump "$python"; then
-        ./check_packages
     fi
 fi
