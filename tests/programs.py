@@ -61,7 +61,7 @@ def asked(name):
 
 
 CAUSES = (rb"address|format|prefix|range|byte order mark|UTF-16 text|gzip data|NUL byte|second entry|host bits|mask or wildcard|repetition|value: there is none"
-          rb"|second address: with --ranges, FIRST LAST is a range")
+          rb"|second address(?:: with --ranges, FIRST LAST is a range)?")
 
 
 def with_texts(reported, lists):

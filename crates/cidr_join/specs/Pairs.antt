@@ -1,8 +1,9 @@
 -- Two addresses at the front of a line.
-use Rattle.std.specs.Prelude.{Bool, true, false, Option, None, Some}
+use Rattle.std.specs.Prelude.{ℕ, Bool, true, false, Option, None, Some}
 use Rattle.ipnetwork_addr.specs.declared.ip.IpAddr.{IpAddr}
 use Rattle.ipnetwork_addr.specs.declared.ip.IpAddr.TheVariants.{V4, V6}
 use Rattle.lists.specs.Entries.{IsRange}
+use Rattle.lists.specs.Masks.{IsMask}
 use Rattle.cidr_join.specs.declared.pair.Pair.{Pair}
 
 -- both addresses, if there are both
@@ -30,3 +31,12 @@ are_alike (Some pair) = are_one_family pair
 abbrev pub AreNoRange : Option Pair → Type 0
 AreNoRange None = ⊥
 AreNoRange (Some pair) = ¬ (IsRange pair.first pair.second)
+
+-- the address is the mask of a prefix length of IPv4, 0 and 32 among them
+abbrev pub IsMaskAddress : IpAddr → Type 0
+IsMaskAddress (V4 number) = (p : ℕ) × IsMask number p
+IsMaskAddress (V6 number) = ⊥
+
+-- the addresses are probably a range: they are the ends of one, and the last is no mask
+abbrev pub IsLikelyRange : Pair → Type 0
+IsLikelyRange pair = IsRange pair.first pair.second × ¬ (IsMaskAddress pair.second)

@@ -4,7 +4,7 @@ ghost use Rattle.lists.specs.Entries.{ReadsEntry};
 ghost use Rattle.cidr_join.specs.Entries.{ReadsRoute, Names, NamesNone, EntryFails, addresses_of, tail_len, dash_len, ends_len, names_len, entry_len, value_part, value_behind, behind_comma};
 
 use crate::comment::{comment_len, has_entry, is_skipped};
-use crate::pair::{OfWord, pair_of};
+use crate::pair::{OfWord, Pair, pair_of};
 use crate::value::Value;
 use lists::{ByteKind, Entry, EntryFault, LINE_MAX, front_len, read_entry, trim};
 
@@ -31,7 +31,7 @@ impl Cause {
         match self {
             Cause::Entry(fault) => fault.text(),
             Cause::Value => "value: there is none",
-            Cause::Second => "second address: with --ranges, FIRST LAST is a range",
+            Cause::Second => "second address",
             Cause::Twice => "repetition",
             Cause::Length => "length",
             Cause::HostBits => "host bits",
@@ -85,6 +85,13 @@ pub(crate) fn read_route(
 pub(crate) fn entry_text(line: &[u8]) -> &[u8] {
     let text = trim::<Blank>(line);
     &text[..names_len(text)]
+}
+
+/// Returns the two addresses that a line begins with, for messages; no clause says what they are.
+pub(crate) fn pair_in(line: &[u8]) -> Option<Pair> {
+    let text = trim::<Blank>(line);
+    let end = entry_len(text);
+    pair_of(&text[..end], value_part(&text[end..]))
 }
 
 // Returns the network or range that a text begins with, and the value after it, or why there is

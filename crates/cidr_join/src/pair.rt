@@ -1,12 +1,13 @@
 //! Two addresses at the front of a line.
 ghost use Rattle.std.specs.Prelude.{◌≡◌, ◌↔◌, IsTrue, MatchOption, None};
+ghost use Rattle.std.specs.Bool.{MatchBool};
 ghost use Rattle.ipnetwork_addr.specs.Computed.Either.{ip_of};
 ghost use Rattle.lists.specs.Entries.{IsRange};
 ghost use Rattle.cidr_join.specs.Entries.{first_word};
-ghost use Rattle.cidr_join.specs.Pairs.{are_one_family, two_of};
+ghost use Rattle.cidr_join.specs.Pairs.{IsLikelyRange, IsMaskAddress, are_one_family, two_of};
 
-use ipnetwork::{IpAddr, laws};
-use lists::{ByteKind, Entry, front_len};
+use ipnetwork::{IpAddr, IpNetwork, ipv4_mask_to_prefix, laws};
+use lists::{ByteKind, Entry, front_len, meant_by_mask};
 
 /// Two addresses, one after the other.
 #[derive(Clone, Copy, Debug)]
@@ -89,6 +90,20 @@ impl Pair {
             last: self.second,
         })
     }
+
+    /// Returns the network of an address and the mask or wildcard after it, if they are these; it is
+    /// for messages, and no clause says which.
+    pub(crate) fn masked(self) -> Option<IpNetwork> {
+        meant_by_mask(self.first, self.second)
+    }
+
+    /// Whether the two are probably a range: the first is not after the second, and the second is
+    /// no mask.
+    pub(crate) fn is_likely_range(self) -> bool
+        ensures { MatchBool result (IsLikelyRange self) (¬ (IsLikelyRange self)) }
+    {
+        is_range(&self.first, &self.second) && !is_mask(self.second)
+    }
 }
 
 // Whether two addresses are of one family, and the first is not after the last.
@@ -99,6 +114,16 @@ fn is_range(first: &IpAddr, last: &IpAddr) -> bool
         return false;
     }
     first <= last
+}
+
+// Whether an address is a mask of IPv4.
+fn is_mask(address: IpAddr) -> bool
+    ensures { MatchBool result (IsMaskAddress address) (¬ (IsMaskAddress address)) }
+{
+    match address {
+        IpAddr::V4(mask) => ipv4_mask_to_prefix(mask).is_ok(),
+        IpAddr::V6(_) => false,
+    }
 }
 
 /// Neither a space nor a tab nor a comma.

@@ -2,8 +2,8 @@
 
 //! Two addresses at the front of a line.
 
-use fosibegan_core::ipnetwork::IpAddr;
-use cidr_programs::lists::{ByteKind, Entry, front_len};
+use fosibegan_core::ipnetwork::{IpAddr, IpNetwork, ipv4_mask_to_prefix};
+use cidr_programs::lists::{ByteKind, Entry, front_len, meant_by_mask};
 
 /// Two addresses, one after the other.
 #[derive(Clone, Copy, Debug)]
@@ -67,6 +67,18 @@ impl Pair {
             last: self.second,
         })
     }
+
+    /// Returns the network of an address and the mask or wildcard after it, if they are these; it is
+    /// for messages, and no clause says which.
+    pub(crate) fn masked(self) -> Option<IpNetwork> {
+        meant_by_mask(self.first, self.second)
+    }
+
+    /// Whether the two are probably a range: the first is not after the second, and the second is
+    /// no mask.
+    pub(crate) fn is_likely_range(self) -> bool {
+        is_range(&self.first, &self.second) && !is_mask(self.second)
+    }
 }
 
 // Whether two addresses are of one family, and the first is not after the last.
@@ -75,6 +87,14 @@ fn is_range(first: &IpAddr, last: &IpAddr) -> bool {
         return false;
     }
     first <= last
+}
+
+// Whether an address is a mask of IPv4.
+fn is_mask(address: IpAddr) -> bool {
+    match address {
+        IpAddr::V4(mask) => ipv4_mask_to_prefix(mask).is_ok(),
+        IpAddr::V6(_) => false,
+    }
 }
 
 /// Neither a space nor a tab nor a comma.

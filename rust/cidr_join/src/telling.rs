@@ -4,7 +4,7 @@
 
 use crate::help::PROGRAM;
 use crate::join::Join;
-use crate::line::{Cause, entry_text};
+use crate::line::{Cause, entry_text, pair_in};
 use crate::list::TakeFault;
 use crate::routes::RouteFault;
 use fosibegan_core::ipnetwork::IpNetwork;
@@ -54,7 +54,7 @@ pub(crate) fn tell_take_fault<E: Write>(
 }
 
 /// Reports that a line of the list with this name, after this many others, is refused, and why, the
-/// beginning of its text, and what would do in place of its network.
+/// beginning of its text, and what would do: `--ranges`, or another text in place of its network.
 pub(crate) fn tell_refused<E: Write>(
     name: &str,
     lines: usize,
@@ -67,6 +67,9 @@ pub(crate) fn tell_refused<E: Write>(
     tell_number((lines as u64).saturating_add(1), errors);
     tell(": refused ", errors);
     tell(cause.text(), errors);
+    if would_be_range(line, cause) {
+        tell(": with --ranges, FIRST LAST is a range", errors);
+    }
     tell_text(&excerpt_of(line, cause), errors);
     tell_meant(meant_in(line, cause), errors);
     tell("\n", errors);
@@ -80,14 +83,28 @@ fn excerpt_of(line: &[u8], cause: Cause) -> Excerpt {
     }
 }
 
+// Whether a line that is refused for this begins with two addresses that are probably a range.
+fn would_be_range(line: &[u8], cause: Cause) -> bool {
+    cause == Cause::Second && matches!(pair_in(line), Some(pair) if pair.is_likely_range())
+}
+
 // Returns the network that is probably meant in a line that is refused for this.
 fn meant_in(line: &[u8], cause: Cause) -> Option<IpNetwork> {
     let fault = match cause {
         Cause::Entry(fault) => fault,
         Cause::HostBits => EntryFault::HostBits,
+        Cause::Second if !would_be_range(line, cause) => return masked_in(line),
         _ => return None,
     };
     meant(LineFault::Entry(fault), entry_text(line))
+}
+
+// Returns the network of the address and the mask or wildcard after it that a line begins with.
+fn masked_in(line: &[u8]) -> Option<IpNetwork> {
+    match pair_in(line) {
+        Some(pair) => pair.masked(),
+        None => None,
+    }
 }
 
 // Reports the beginning of a text, unless the text is empty.

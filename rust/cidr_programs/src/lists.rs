@@ -45,7 +45,7 @@ pub use entry::{Entry, EntryFault, read_entry};
 pub use excerpt::Excerpt;
 pub use fault::LineFault;
 pub use forms::{LineForm, read_entry_by};
-pub use hint::{meant, would_take_masks};
+pub use hint::{meant, meant_by_mask, would_take_masks};
 pub use last_byte::ends_with_feed;
 pub use list_reader::ListReader;
 pub use looks::looks_like_entry;

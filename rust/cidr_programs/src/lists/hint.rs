@@ -41,6 +41,32 @@ pub fn meant(fault: LineFault, text: &[u8]) -> Option<IpNetwork> {
     }
 }
 
+/// Returns the network that an IPv4 address and a mask or wildcard after it probably mean, or `None`
+/// if the second address is neither, or both, as 0.0.0.0 is. It is for messages, so no clause says
+/// what it is.
+///
+/// ```
+/// # use cidr_programs::in_examples::*;
+/// # ended(|| {
+/// use cidr_programs::lists::meant_by_mask;
+///
+/// let meant = meant_by_mask("10.0.0.0".parse()?, "0.0.0.255".parse()?);
+/// assert_eq!(meant, Some("10.0.0.0/24".parse()?));
+/// assert_eq!(meant_by_mask("10.0.0.0".parse()?, "10.0.0.255".parse()?), None);
+/// # Ok(())
+/// # });
+/// ```
+pub fn meant_by_mask(address: IpAddr, mask: IpAddr) -> Option<IpNetwork> {
+    match (address, mask) {
+        (IpAddr::V4(_), IpAddr::V4(mask)) => {
+            let mask = u32::from(mask);
+            let prefix = prefix_of(mask).or(prefix_of(!mask))?;
+            IpNetwork::new(address, prefix).ok()
+        }
+        _ => None,
+    }
+}
+
 /// Returns whether a refused text would be taken with masks (`Rules::takes_masks`). It is for
 /// messages, so no clause says when. Strings of documents and texts that are cut are no such texts.
 ///
@@ -130,9 +156,7 @@ fn number_of(digits: &[u8], max: u32) -> Option<u8> {
 fn masked(text: &[u8]) -> Option<IpNetwork> {
     let address = Ipv4Addr::read_bytes(before(text, b' ')).ok()?;
     let mask = Ipv4Addr::read_bytes(trim::<Blank>(after(text, b' '))).ok()?;
-    let mask = u32::from(mask);
-    let prefix = prefix_of(mask).or(prefix_of(!mask))?;
-    IpNetwork::new(IpAddr::V4(address), prefix).ok()
+    meant_by_mask(IpAddr::V4(address), IpAddr::V4(mask))
 }
 
 // Returns the prefix length of a mask, unless it is of all bits or of none, which a wildcard is
