@@ -43,6 +43,8 @@ ROWS = [
     ("find 10.0.0.0/9 --masks --whole -- f", "10.0.0.0 255.0.0.0", 2, b"", b"f: no line feed at its end; it may have been cut off\n"),
     ("find 10.0.0.0/9 --masks -- f", "0.0.0.0 0.0.0.0\n10.0.0.0 255.0.0.0", 2, b"f:2: has all of 10.0.0.0/9: 10.0.0.0 255.0.0.0\n",
         refused("mask or wildcard: 0.0.0.0 0.0.0.0")),
+    ("overlaps --masks --strict f g", "10.0.0.5 255.0.0.0\n10.0.0.5 255.255.255.255\n10.0.0.0 255.0.0.0 # x\n", 1, refused("host bits: 10.0.0.5 255.0.0.0") + b"g:1: in f:3\nf:2: in f:3\nf:2: in g:1\n", b""),
+    ("find 10.0.0.9 --masks --strict -- f", "10.0.0.5 255.0.0.0\n10.0.0.0 255.0.0.0\n", 2, b"f:2: has 10.0.0.9: 10.0.0.0 255.0.0.0\n", refused("host bits: 10.0.0.5 255.0.0.0")),
     # The lists of `--from` have no masks.
     ("find --from g --masks -- f", "10.0.0.0 255.0.0.0\n2001:db8::/16\n", 0, b"f:1: has all of 10.0.0.0/9: 10.0.0.0 255.0.0.0\nf:2: has all of 2001:db8::/32: 2001:db8::/16\n", b""),
     ("find --from f --masks -- g", "10.0.0.0 255.0.0.0\n2001:db8::\n", 2, b"g:2: has 2001:db8::: 2001:db8::/32\n", refused("address: 10.0.0.0 255.0.0.0 (write 10.0.0.0/8)")),
@@ -85,8 +87,8 @@ WRONG = [
     ("overlaps --read ipset --masks f", b"--read: not together with --masks"),
     ("find ::1 --masks -- f --read nft", b"--read: not together with --masks"),
     ("check --masks --json f", b"--json: not an option of check; it takes -e TEXT, --strict, --whole, --masks and --read FORM"),
-    ("overlaps --masks --strict f", b"--strict: not an option of overlaps; it takes -e TEXT, --whole, --masks and --read FORM"),
-    ("find ::1 --masks --json -- f", b"--json: not an option of find; it takes -e TEXT, --from FILE, --whole, --masks and --read FORM"),
+    ("overlaps --masks --json f", b"--json: not an option of overlaps; it takes -e TEXT, --strict, --whole, --masks and --read FORM"),
+    ("find ::1 --masks --json -- f", b"--json: not an option of find; it takes -e TEXT, --from FILE, --strict, --whole, --masks and --read FORM"),
     ("check --masks=yes f", b"--masks=yes: not an option of check; it takes -e TEXT, --strict, --whole, --masks and --read FORM"),
     ("check --masks", b"check: no FILE; - is standard input"),
 ]

@@ -51,8 +51,8 @@ def overlaps(program, folder):
     """Random lists, with many entries that overlap and with few."""
     for seed in range(200):
         dice = random.Random(seed)
-        wanted = strictly = ""
-        entries = []
+        wanted = strictly = refusing = ""
+        entries, allowed = [], []
         names = ["one", "two", "three"][: dice.randrange(1, 4)]
         for name in names:
             lines = [some_line(dice) for _ in range(dice.choice((0, 3, 30)))]
@@ -62,12 +62,19 @@ def overlaps(program, folder):
                 if ends is False:
                     wanted += f"{name}:{number}: refused {cause(line)}: {line}\n"
                     strictly += f"{name}:{number}: refused {cause(line)}: {line}\n"
+                    refusing += f"{name}:{number}: refused {cause(line)}: {line}\n"
                 elif ends:
+                    entries.append((f"{name}:{number}", ends, len(entries)))
                     if has_host_bits(line):
                         strictly += f"{name}:{number}: host bits: {line}\n"
-                    entries.append((f"{name}:{number}", ends, len(entries)))
+                        refusing += f"{name}:{number}: refused host bits: {line}\n"
+                    else:
+                        allowed.append(entries[-1])
         reported = wanted + "".join(pairs(entries))
         yield f"overlaps, seed {seed}", run(program, ["overlaps", *names], folder), (1 if reported else 0, reported.encode(), b"")
+        reported = refusing + "".join(pairs(allowed))
+        words = ["overlaps", "--strict", *names]
+        yield f"overlaps --strict, seed {seed}", run(program, words, folder), (1 if reported else 0, reported.encode(), b"")
         reported = strictly + "".join(one_each(entries))
         words = ["check", "--strict", *names]
         yield f"check --strict, seed {seed}", run(program, words, folder), (1 if reported else 0, reported.encode(), b"")

@@ -85,6 +85,9 @@ ROWS = [
     ("find ::1 --read csv -- f", HEAD + TEN, 1, b"", b""),
     ("find 10.1.2.3 --read ipset -- f", IPSET_SAVE, 0, b"f:2: has 10.1.2.3: add s 10.0.0.0/8\n", b""),
     ("find 10.1.2.3 --read nft -- f g", "\t10.0.0.0/8,\n10.0.0.0/8\n", 2, b"f:1: has 10.1.2.3: \t10.0.0.0/8,\ng:1: has 10.1.2.3: \t10.0.0.0/9\n", refused(None, "format: 10.0.0.0/8")),
+    ("overlaps --read csv --strict f", "IPv4,10.0.0.5/8,10.0.0.0,10.255.255.255\n" + TEN + TEN, 1,
+        refused("host bits: IPv4,10.0.0.5/8,10.0.0.0,10.255.255.255") + b"f:3: same as f:2\n", b""),
+    ("find 10.1.2.3 --strict --read ipset -- f", "add s 10.0.0.5/8\nadd s 10.1.2.3\n", 2, b"f:2: has 10.1.2.3: add s 10.1.2.3\n", refused("host bits: add s 10.0.0.5/8")),
     # The lists of `--from` are plain.
     ("find --from g --read nft -- f", "\t10.0.0.0/8\n", 0, b"f:1: has all of 10.0.0.0/9: \t10.0.0.0/8\n", b""),
 ]

@@ -78,6 +78,19 @@ pub masks_in_comments :
 unfolding digits v6_of gap_below count_leading_zeros
 masks_in_comments = (refl, refl)
 
+-- where host bits are refused: a network with host bits, in two words too, and one of each family without, an address, a
+-- range, nothing, and a line that names no entry
+pub host_bits_are_refused :
+    map (said_by (record lenient { refuses_host_bits = true; takes_masks = true })) (codes "10.0.0.1/8" ∷ codes "10.0.0.1 255.0.0.0"
+    ∷ codes "::1/64 # x" ∷ codes "10.0.0.0/8" ∷ codes "::/64" ∷ codes "10.0.0.1" ∷ codes "::1-::2" ∷ codes "#" ∷ codes "x" ∷ [])
+    ≡ Err (faults.Entry causes.HostBits) ∷ Err (faults.Entry causes.HostBits) ∷ Err (faults.Entry causes.HostBits)
+    ∷ Ok (Some (Network (networks.V4 (record { address = 0x0a000000; prefix = 8 }))))
+    ∷ Ok (Some (Network (networks.V6 (record { address = 0; prefix = 64 }))))
+    ∷ Ok (Some (Network (networks.V4 (record { address = 0x0a000001; prefix = 32 }))))
+    ∷ Ok (Some (Range (V6 1) (V6 2))) ∷ Ok None ∷ Err (faults.Entry causes.Address) ∷ []
+unfolding digits v6_of gap_below count_leading_zeros
+host_bits_are_refused = refl
+
 -- in the form of another program: a network with its host bits, nothing, and a refused line of each kind
 pub what_lines_of_csv_say :
     map (said_by (record lenient { form = Csv })) (codes "IPv4,10.0.0.1/8,10.0.0.0,10.255.255.255" ∷ codes "family,network,first,last"

@@ -226,9 +226,9 @@ module _ (networks : (text : List ℕ) (result : Result IpNetwork CidrFault)
 -- ---- what a line says
 
 pub said_is : (rules : Rules) (line : List ℕ) (reading : Result (Option Entry) EntryFault)
-    → length line ≤ 1024 → reading ≡ reading_in rules.form rules.takes_masks line → as_said reading ≡ said_by rules line
+    → length line ≤ 1024 → reading ≡ reading_in rules.form rules.takes_masks line → as_said rules reading ≡ said_by rules line
 said_is rules line reading short e =
-    ap as_said e ∙ sym (rw (no_less 1024 (length line) (λ l. omega (arith, l, short))))
+    ap (as_said rules) e ∙ sym (rw (no_less 1024 (length line) (λ l. omega (arith, l, short))))
 
 pub too_long : (rules : Rules) (line : List ℕ) → 1024 < length line → Err faults.Length ≡ said_by rules line
 too_long rules line long = sym (rw (lt-ltb 1024 (length line) long))

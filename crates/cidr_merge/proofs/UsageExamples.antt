@@ -139,11 +139,14 @@ pub options_anywhere : {Z : Type 0}
       merge = plain_merge Union Blocks;
     }))
     (codes "a" ∷ [])
-    × Ask Z (codes "check" ∷ codes "a" ∷ codes "--strict" ∷ []) (commands.Inspect inspections.Strict (record lenient { refuses_host_bits = true })) (codes "a" ∷ [])
+    × Ask Z (codes "check" ∷ codes "a" ∷ codes "--strict" ∷ []) (commands.Inspect inspections.Strict lenient) (codes "a" ∷ [])
     × Ask Z (codes "find" ∷ codes "::1" ∷ codes "-" ∷ codes "--" ∷ codes "-" ∷ []) (commands.Find 2 0 lenient)
     (codes "::1" ∷ codes "-" ∷ codes "-" ∷ [])
     × Ask Z (codes "find" ∷ codes "--from" ∷ codes "-e x" ∷ codes "--" ∷ codes "--whole" ∷ codes "a" ∷ []) (commands.Find 0 1 (record lenient { is_whole = true }))
     (codes "./-e x" ∷ codes "a" ∷ [])
+    × Ask Z (codes "overlaps" ∷ codes "a" ∷ codes "--strict" ∷ []) (commands.Inspect inspections.Overlaps (record lenient { refuses_host_bits = true })) (codes "a" ∷ [])
+    × Ask Z (codes "find" ∷ codes "::1" ∷ codes "--strict" ∷ codes "--" ∷ codes "a" ∷ []) (commands.Find 1 0 (record lenient { refuses_host_bits = true }))
+    (codes "::1" ∷ codes "a" ∷ [])
     × Ask Z (codes "overlaps" ∷ codes "--read=ipset" ∷ codes "a" ∷ []) (commands.Inspect inspections.Overlaps (record lenient { form = line_forms.Ipset }))
     (codes "a" ∷ [])
     × Ask Z (codes "find" ∷ codes "::1" ∷ codes "--masks" ∷ codes "--" ∷ codes "a" ∷ []) (commands.Find 1 0 (record lenient { takes_masks = true }))
@@ -160,6 +163,8 @@ options_anywhere = (
   (λ _ o _ a _ b. simp (o, a, b)),
   (λ _ o _ a _ b _ c _ d. simp (o, a, b, c, d)),
   (λ _ o _ a _ b _ c _ d _ e. simp (o, a, b, c, d, e)),
+  (λ _ o _ a _ b. simp (o, a, b)),
+  (λ _ o _ a _ b _ c _ d. simp (o, a, b, c, d)),
   (λ _ o _ a _ b. simp (o, a, b)),
   (λ _ o _ a _ b _ c _ d. simp (o, a, b, c, d)),
 )

@@ -13,7 +13,7 @@ use Rattle.options.specs.declared.table.Table.{Table}
 use Rattle.cidr_merge.specs.Bounds.{bound_of, change_of}
 use Rattle.cidr_merge.specs.NamedLists.{lists_of}
 use Rattle.cidr_merge.specs.RightWords.{are_wrong, from_of}
-use Rattle.cidr_merge.specs.Forms.{form_of, rules_by, shape_of, length_of, most_of, at_least_of}
+use Rattle.cidr_merge.specs.Forms.{check_rules, form_of, rules_by, shape_of, length_of, most_of, at_least_of}
 use Rattle.cidr_merge.specs.Options as own
 use Rattle.cidr_merge.specs.SetNames.{Names, names_of}
 use Rattle.cidr_merge.specs.Sides.{before_dashes, behind_dashes}
@@ -91,7 +91,7 @@ asked_for tasks.Split items middle = commands.Split
     })
 asked_for tasks.Reduce items middle = commands.Reduce (reduction_of items middle)
 asked_for tasks.Check items middle =
-    commands.Inspect (inspection_of (is_given items own.strict)) (rules_by items)
+    commands.Inspect (inspection_of (is_given items own.strict)) (check_rules items)
 asked_for tasks.Overlaps items middle = commands.Inspect inspections.Overlaps (rules_by items)
 asked_for tasks.Find items middle = commands.Find middle (length (from_of tasks.Find items)) (rules_by items)
 asked_for tasks.Free items middle = commands.Free (free_of items middle)

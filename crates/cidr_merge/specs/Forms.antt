@@ -1,6 +1,6 @@
 -- The meaning of the options for the output form, the input format, the prefix length of a `split` or a `free`, the least
 -- number of networks of a result and the greatest of a `reduce`.
-use Rattle.std.specs.Prelude.{ℕ, zero, suc, ◌==◌, List, [], ◌∷◌, Option, None, Some, if◌then◌else◌, codes, bytes_eq}
+use Rattle.std.specs.Prelude.{ℕ, zero, suc, ◌==◌, List, [], ◌∷◌, false, Option, None, Some, if◌then◌else◌, codes, bytes_eq}
 use Rattle.std.specs.Option.{unwrap_or}
 use Rattle.lists.specs.declared.forms.LineForm.{LineForm}
 use Rattle.lists.specs.declared.forms.LineForm.TheVariants as lines
@@ -53,6 +53,10 @@ rules_by items = record {
   takes_masks = is_given items own.masks;
   form = unwrap_or (line_form_called (value_of items own.read)) lines.Plain;
 }
+
+-- the rules of a `check`: with `--strict` it reports host bits itself, so that no entry is refused for them
+abbrev pub check_rules : List Item → Rules
+check_rules items = record (rules_by items) { refuses_host_bits = false }
 
 -- the format in which lists are written
 abbrev pub shape_of : List Item → Shape

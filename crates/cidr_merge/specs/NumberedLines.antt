@@ -20,6 +20,7 @@ use Rattle.lists.specs.Entries.{entry_text, is_dash, told_cause}
 use Rattle.lists.specs.LineForms.{ipset_part, is_command, is_nft_frame, nft_part}
 use Rattle.lists.specs.Lines.{comment_text, trimmed}
 use Rattle.lists.specs.Masks.{after_word, first_word}
+use Rattle.lists.specs.Rules.{refuses}
 use Rattle.lists.specs.declared.entry.Entry.{Entry}
 use Rattle.lists.specs.declared.entry.Entry.TheVariants.{Network, Range}
 use Rattle.lists.specs.declared.entry.EntryFault.{EntryFault}
@@ -198,11 +199,16 @@ reading_in Csv masks line = csv_reading line
 reading_in Ipset masks line = if is_command (first_word line) then Ok None else part_reading line (ipset_part line)
 reading_in Nft masks line = if is_nft_frame line then Ok None else part_reading line (nft_part line)
 
+-- what is read of a line, unless these rules refuse its entry for its host bits
+abbrev pub allowed : Rules → Option Entry → Result (Option Entry) LineFault
+allowed rules None = Ok None
+allowed rules (Some entry) = if refuses rules entry then Err (faults.Entry causes.HostBits) else Ok (Some entry)
+
 -- what a line says: that result, unless the line is too long
-abbrev pub as_said : Result (Option Entry) EntryFault → Result (Option Entry) LineFault
-as_said (Ok said) = Ok said
-as_said (Err fault) = Err (faults.Entry fault)
+abbrev pub as_said : Rules → Result (Option Entry) EntryFault → Result (Option Entry) LineFault
+as_said rules (Ok said) = allowed rules said
+as_said rules (Err fault) = Err (faults.Entry fault)
 
 abbrev pub said_by : Rules → List ℕ → Result (Option Entry) LineFault
 said_by rules line =
-    if nat_lt 1024 (length line) then Err faults.Length else as_said (reading_in rules.form rules.takes_masks line)
+    if nat_lt 1024 (length line) then Err faults.Length else as_said rules (reading_in rules.form rules.takes_masks line)

@@ -151,8 +151,8 @@ taken tasks.Reduce =
     text ∷ ranges ∷ count ∷ format ∷ set ∷ table ∷ maxelem ∷ before ∷ after ∷ skip_bad ∷ json ∷ json_field ∷ strict
     ∷ whole ∷ masks ∷ read ∷ allow_empty ∷ at_least ∷ most ∷ ipv4 ∷ ipv6 ∷ max_others ∷ only_v4 ∷ only_v6 ∷ []
 taken tasks.Check = text ∷ strict ∷ whole ∷ masks ∷ read ∷ []
-taken tasks.Overlaps = text ∷ whole ∷ masks ∷ read ∷ []
-taken tasks.Find = text ∷ from ∷ whole ∷ masks ∷ read ∷ []
+taken tasks.Overlaps = text ∷ strict ∷ whole ∷ masks ∷ read ∷ []
+taken tasks.Find = text ∷ from ∷ strict ∷ whole ∷ masks ∷ read ∷ []
 taken tasks.Free =
     text ∷ prefix ∷ all ∷ hosts ∷ usage ∷ before ∷ after ∷ skip_bad ∷ json ∷ json_field ∷ strict ∷ whole ∷ masks ∷ read
     ∷ allow_empty ∷ only_v4 ∷ only_v6 ∷ []

@@ -6,8 +6,9 @@ ghost use Rattle.cidr_merge.specs.Bounds.{bound_of, change_of};
 ghost use Rattle.cidr_merge.specs.CommandLines.{request_of, reduction_of, inspection_of, asked_for};
 ghost use Rattle.cidr_merge.specs.CommandLines.{free_of};
 ghost use Rattle.cidr_merge.specs.CommandLines.{command_for, command_of, told_of, sets_by, sets_of};
-ghost use Rattle.cidr_merge.specs.Forms.{form_called, form_of, rules_by, shape_of, without_plus};
+ghost use Rattle.cidr_merge.specs.Forms.{check_rules, form_called, form_of, rules_by, shape_of};
 ghost use Rattle.cidr_merge.specs.Forms.{prefix_in, length_of, most_in, most_of, at_least_of};
+ghost use Rattle.cidr_merge.specs.Forms.{without_plus};
 ghost use Rattle.cidr_merge.specs.Private.Words.{IsCommandWithin};
 
 use crate::bounds::{Bound, bound_in};
@@ -256,7 +257,7 @@ fn asked_for(task: Task, items: &[Item<'_>], middle: usize) -> Command
         Task::Reduce => Command::Reduce(reduction_of(items, middle)),
         Task::Check => {
             let inspection = inspection_of(is_given(items, STRICT));
-            Command::Inspect(inspection, rules_by(items))
+            Command::Inspect(inspection, check_rules(items))
         }
         Task::Overlaps => Command::Inspect(Inspection::Overlaps, rules_by(items)),
         Task::Find => Command::Find(middle, from_count(task, items), rules_by(items)),
@@ -360,6 +361,17 @@ fn rules_by(items: &[Item<'_>]) -> Rules
         is_whole: is_given(items, WHOLE),
         takes_masks: is_given(items, MASKS),
         form: line_form_called(value_of(items, READ)).unwrap_or(LineForm::Plain),
+    }
+}
+
+// The rules of a `check` that these options give. A strict one reports host bits itself: no entry is
+// refused for them.
+fn check_rules(items: &[Item<'_>]) -> Rules
+    ensures { result ≡ check_rules items.now }
+{
+    Rules {
+        refuses_host_bits: false,
+        ..rules_by(items)
     }
 }
 

@@ -1,12 +1,12 @@
 //! The entries in the lines of lists, and how they relate to networks.
 ghost use Rattle.std.specs.Prelude.{◌≡◌};
 ghost use Rattle.cidr_merge.specs.Finds.{do_meet, has_all, relation_of};
-ghost use Rattle.cidr_merge.specs.NumberedLines.{is_range, said_by};
+ghost use Rattle.cidr_merge.specs.NumberedLines.{allowed, is_range, said_by};
 
 use crate::placed::ends_of;
 use ipnetwork::{IpAddr, IpNetwork, laws as network_laws};
 use ipnetwork_addr::laws as address_laws;
-use lists::{Entry, LINE_MAX, LineFault, Rules, read_entry_by};
+use lists::{Entry, EntryFault, LINE_MAX, LineFault, Rules, has_host_bits, read_entry_by};
 
 /// How an entry relates to a network.
 #[derive(Clone, Copy, Debug, PartialEq, Eq)]
@@ -22,7 +22,7 @@ pub(crate) enum Relation {
 }
 
 /// Returns the entry of a line that is read by these rules, if it has one, or why the line is
-/// refused. Host bits are kept, whatever the rules say of them.
+/// refused. An entry that is not refused keeps its host bits.
 pub(crate) fn entry_of(rules: Rules, line: &[u8]) -> Result<Option<Entry>, LineFault>
     ensures { result ≡ said_by rules line.now }
 {
@@ -38,8 +38,20 @@ pub(crate) fn entry_of(rules: Rules, line: &[u8]) -> Result<Option<Entry>, LineF
         return Err(LineFault::Length);
     }
     match read_entry_by(rules, line) {
-        Ok(entry) => Ok(entry),
+        Ok(said) => allowed(rules, said),
         Err(fault) => Err(LineFault::Entry(fault)),
+    }
+}
+
+// Returns what a line says, unless these rules refuse its entry for its host bits.
+fn allowed(rules: Rules, said: Option<Entry>) -> Result<Option<Entry>, LineFault>
+    ensures { result ≡ allowed rules said }
+{
+    match said {
+        Some(entry) if rules.refuses_host_bits && has_host_bits(&entry) => {
+            Err(LineFault::Entry(EntryFault::HostBits))
+        }
+        _ => Ok(said),
     }
 }
 

@@ -81,10 +81,12 @@ pub(crate) fn no_option(task: Task) -> &'static str {
             "not an option of check; it takes -e TEXT, --strict, --whole, --masks and --read FORM"
         }
         Task::Overlaps => {
-            "not an option of overlaps; it takes -e TEXT, --whole, --masks and --read FORM"
+            "not an option of overlaps; it takes -e TEXT, --strict, --whole, --masks and \
+             --read FORM"
         }
         Task::Find => {
-            "not an option of find; it takes -e TEXT, --from FILE, --whole, --masks and --read FORM"
+            "not an option of find; it takes -e TEXT, --from FILE, --strict, --whole, --masks and \
+             --read FORM"
         }
         Task::Free => {
             "not an option of free; it takes -e TEXT, --prefix N, --all, --hosts N,N,.., --usage, \

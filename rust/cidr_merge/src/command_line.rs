@@ -229,7 +229,7 @@ fn asked_for(task: Task, items: &[Item<'_>], middle: usize) -> Command {
         Task::Reduce => Command::Reduce(reduction_of(items, middle)),
         Task::Check => {
             let inspection = inspection_of(is_given(items, STRICT));
-            Command::Inspect(inspection, rules_by(items))
+            Command::Inspect(inspection, check_rules(items))
         }
         Task::Overlaps => Command::Inspect(Inspection::Overlaps, rules_by(items)),
         Task::Find => Command::Find(middle, from_count(task, items), rules_by(items)),
@@ -319,6 +319,15 @@ fn rules_by(items: &[Item<'_>]) -> Rules {
         is_whole: is_given(items, WHOLE),
         takes_masks: is_given(items, MASKS),
         form: line_form_called(value_of(items, READ)).unwrap_or(LineForm::Plain),
+    }
+}
+
+// The rules of a `check` that these options give. A strict one reports host bits itself: no entry is
+// refused for them.
+fn check_rules(items: &[Item<'_>]) -> Rules {
+    Rules {
+        refuses_host_bits: false,
+        ..rules_by(items)
     }
 }
 

@@ -4,7 +4,9 @@
 
 use crate::placed::ends_of;
 use fosibegan_core::ipnetwork::{IpAddr, IpNetwork};
-use cidr_programs::lists::{Entry, LINE_MAX, LineFault, Rules, read_entry_by};
+use cidr_programs::lists::{
+    Entry, EntryFault, LINE_MAX, LineFault, Rules, has_host_bits, read_entry_by,
+};
 
 /// How an entry relates to a network.
 #[derive(Clone, Copy, Debug, PartialEq, Eq)]
@@ -20,7 +22,7 @@ pub(crate) enum Relation {
 }
 
 /// Returns the entry of a line that is read by these rules, if it has one, or why the line is
-/// refused. Host bits are kept, whatever the rules say of them.
+/// refused. An entry that is not refused keeps its host bits.
 pub(crate) fn entry_of(rules: Rules, line: &[u8]) -> Result<Option<Entry>, LineFault> {
     // These do nothing. The proof needs the laws: the result of reading a text can be computed, and
     // the text of an address contains no blank and no `-`.
@@ -28,8 +30,18 @@ pub(crate) fn entry_of(rules: Rules, line: &[u8]) -> Result<Option<Entry>, LineF
         return Err(LineFault::Length);
     }
     match read_entry_by(rules, line) {
-        Ok(entry) => Ok(entry),
+        Ok(said) => allowed(rules, said),
         Err(fault) => Err(LineFault::Entry(fault)),
+    }
+}
+
+// Returns what a line says, unless these rules refuse its entry for its host bits.
+fn allowed(rules: Rules, said: Option<Entry>) -> Result<Option<Entry>, LineFault> {
+    match said {
+        Some(entry) if rules.refuses_host_bits && has_host_bits(&entry) => {
+            Err(LineFault::Entry(EntryFault::HostBits))
+        }
+        _ => Ok(said),
     }
 }
 

@@ -342,8 +342,8 @@ pub(crate) fn taken(task: Task) -> &'static [usize] {
         Task::Split => &OF_SPLIT,
         Task::Reduce => &OF_REDUCE,
         Task::Check => &OF_CHECK,
-        Task::Overlaps => &[TEXT, WHOLE, MASKS, READ],
-        Task::Find => &[TEXT, FROM, WHOLE, MASKS, READ],
+        Task::Overlaps => &[TEXT, STRICT, WHOLE, MASKS, READ],
+        Task::Find => &[TEXT, FROM, STRICT, WHOLE, MASKS, READ],
         Task::Free => &OF_FREE,
     }
 }
