@@ -13,6 +13,7 @@ from cidr_merge_overlaps import has_host_bits, one_each, pairs
 SECOND = " # 10.0.0.0 255.0.0.0"
 BOTH = "0.0.0.0", "255.255.255.255"
 CUT = "no line feed at the end: may be cut off"
+ADVICE = " (--masks takes a mask or wildcard after an address)"
 
 
 def refused(*causes):
@@ -45,6 +46,10 @@ ROWS = [
         refused("mask or wildcard: 0.0.0.0 0.0.0.0")),
     ("overlaps --masks --strict f g", "10.0.0.5 255.0.0.0\n10.0.0.5 255.255.255.255\n10.0.0.0 255.0.0.0 # x\n", 1, refused("host bits: 10.0.0.5 255.0.0.0") + b"g:1: in f:3\nf:2: in f:3\nf:2: in g:1\n", b""),
     ("find 10.0.0.9 --masks --strict -- f", "10.0.0.5 255.0.0.0\n10.0.0.0 255.0.0.0\n", 2, b"f:2: has 10.0.0.9: 10.0.0.0 255.0.0.0\n", refused("host bits: 10.0.0.5 255.0.0.0")),
+    # What takes `--masks`, and is read without it.
+    ("split --prefix 9 f", "10.0.0.0 255.0.0.0\n", 2, b"", refused("address: 10.0.0.0 255.0.0.0 (write 10.0.0.0/8)" + ADVICE)),
+    ("reduce 1 f", "10.0.0.0 255.0.0.0\n", 2, b"", refused("address: 10.0.0.0 255.0.0.0 (write 10.0.0.0/8)" + ADVICE)),
+    ("free --prefix 9 f -- g", "10.0.0.0 255.0.0.0\n", 2, b"", refused("address: 10.0.0.0 255.0.0.0 (write 10.0.0.0/8)" + ADVICE)),
     # The lists of `--from` have no masks.
     ("find --from g --masks -- f", "10.0.0.0 255.0.0.0\n2001:db8::/16\n", 0, b"f:1: has all of 10.0.0.0/9: 10.0.0.0 255.0.0.0\nf:2: has all of 2001:db8::/32: 2001:db8::/16\n", b""),
     ("find --from f --masks -- g", "10.0.0.0 255.0.0.0\n2001:db8::\n", 2, b"g:2: has 2001:db8::: 2001:db8::/32\n", refused("address: 10.0.0.0 255.0.0.0 (write 10.0.0.0/8)")),

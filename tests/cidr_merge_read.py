@@ -88,6 +88,11 @@ ROWS = [
     ("overlaps --read csv --strict f", "IPv4,10.0.0.5/8,10.0.0.0,10.255.255.255\n" + TEN + TEN, 1,
         refused("host bits: IPv4,10.0.0.5/8,10.0.0.0,10.255.255.255") + b"f:3: same as f:2\n", b""),
     ("find 10.1.2.3 --strict --read ipset -- f", "add s 10.0.0.5/8\nadd s 10.1.2.3\n", 2, b"f:2: has 10.1.2.3: add s 10.1.2.3\n", refused("host bits: add s 10.0.0.5/8")),
+    # `--masks` is no option here, so that no line is said to be taken with it.
+    ("union --read nft f", "\t10.0.0.0 255.0.0.0\n", 2, b"", refused("address: \t10.0.0.0 255.0.0.0 (write 10.0.0.0/8)")),
+    ("split --prefix 9 --read nft f", "\t10.0.0.0 255.0.0.0\n", 2, b"", refused("address: \t10.0.0.0 255.0.0.0 (write 10.0.0.0/8)")),
+    ("reduce 1 --read nft f", "\t10.0.0.0\t255.0.0.0\n", 2, b"", refused("address: \t10.0.0.0\t255.0.0.0")),
+    ("free --prefix 9 --read nft f -- g", "\t10.0.0.0 0.255.255.255\n", 2, b"", refused("address: \t10.0.0.0 0.255.255.255 (write 10.0.0.0/8)")),
     # The lists of `--from` are plain.
     ("find --from g --read nft -- f", "\t10.0.0.0/8\n", 0, b"f:1: has all of 10.0.0.0/9: \t10.0.0.0/8\n", b""),
 ]

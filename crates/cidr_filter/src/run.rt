@@ -9,7 +9,7 @@ use crate::filter::{Family, Filter, OutputMode};
 use crate::help::{HELP, PROGRAM, USAGE, VERSION};
 use crate::logs::filter_logs;
 use crate::matcher::Matcher;
-use crate::reading::{question_of, read_listed};
+use crate::reading::{question_of, read_listed, rules_of};
 use crate::rows::{
     BAD, COUNTS, INVERTS, MOST, NAMED, NAMES, NUL, NUMBERED, ONLY, ONLY_V4, ONLY_V6, QUIET,
     SKIPS_BAD, UNNAMED, table,
@@ -100,7 +100,15 @@ fn filter_files<L: OpenLists, W: Write, E: Write>(
 {
     let question = question_of(items);
     let (listed, refusals, read) = read_listed(alloc, lists, items, question);
-    tell_refusals(PROGRAM, names, &InOptions { items }, &refusals, errors);
+    let form = rules_of(items).form;
+    tell_refusals(
+        PROGRAM,
+        names,
+        &InOptions { items },
+        form,
+        &refusals,
+        errors,
+    );
     if let Err(fault) = read {
         tell_fault(PROGRAM, names, &[], fault, errors);
         return FAILED;

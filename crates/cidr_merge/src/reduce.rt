@@ -14,6 +14,7 @@ use crate::printing::Merging;
 use crate::reading::{Sets, read_side, refuse_lists};
 use crate::run::answer;
 use crate::set_names::SetNames;
+use crate::shapes::rules_of;
 use ipnetwork::{Ipv4Network, Ipv6Network};
 use ipnetwork_blocks::AddressSpace;
 use ipnetwork_sets::AddressSet;
@@ -39,7 +40,8 @@ pub(crate) fn reduce<L: OpenLists, W: Write, E: Write>(
     let names = context.names;
     let none = Refusals::new();
     let (sets, refusals, read) = read_side(context, request.merge.shape, names, 0, none);
-    tell_refusals(PROGRAM, names, &InLists, &refusals, errors);
+    let form = rules_of(request.merge.shape).form;
+    tell_refusals(PROGRAM, names, &InLists, form, &refusals, errors);
     match read {
         Ok(()) => join(request, context, !refusals.is_empty(), sets, output, errors),
         Err(fault) => refuse_lists(context, fault, errors),

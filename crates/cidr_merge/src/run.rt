@@ -21,6 +21,7 @@ use crate::printing::{Merging, print};
 use crate::reading::{Sets, read_side, refuse_lists};
 use crate::reduce::reduce;
 use crate::rows::table;
+use crate::shapes::rules_of;
 use crate::spelling::{is_short, spelled_out};
 use crate::split::split;
 use lines::fault::RunFault;
@@ -124,7 +125,8 @@ fn merge<L: OpenLists, W: Write, E: Write>(
         context.now.sets.now request output.old output.new result }
 {
     let (first, second, refusals, read) = read_sides(request, context);
-    tell_refusals(PROGRAM, context.names, &InLists, &refusals, errors);
+    let form = rules_of(request.shape).form;
+    tell_refusals(PROGRAM, context.names, &InLists, form, &refusals, errors);
     match read {
         Ok(()) => {
             let merging = Merging {

@@ -5,7 +5,7 @@ use crate::messages::{tell, tell_head, tell_number, tell_of};
 use crate::usage::tell_shown;
 use ipnetwork::IpNetwork;
 use lines::output::Output;
-use lists::{Excerpt, ReadFault, Refusal, Refusals, meant, would_take_masks};
+use lists::{Excerpt, LineForm, ReadFault, Refusal, Refusals, meant, would_take_masks};
 use std::io::Write;
 
 /// Says where refused lines are, in terms of the words of a command line.
@@ -41,22 +41,23 @@ impl Places for InLists {
     }
 }
 
-/// Reports in the name of a program the refused lines: those that were kept, which are the first
-/// hundred, and how many more there were.
+/// Reports in the name of a program the refused lines of lists in this form: those that were kept,
+/// which are the first hundred, and how many more there were.
 ///
 /// ```
-/// use lists::Refusals;
+/// use lists::{LineForm, Refusals};
 /// use program::telling::{InLists, tell_refusals};
 ///
 /// let mut slice = [0; 64];
 /// let mut errors = lines::output::Output::new(Vec::new(rt.alloc()), &mut slice);
-/// tell_refusals("sum", &[], &InLists, &Refusals::new(), &mut errors);
+/// tell_refusals("sum", &[], &InLists, LineForm::Plain, &Refusals::new(), &mut errors);
 /// assert_eq!(rt; errors.finish(), Ok(()));
 /// ```
 pub fn tell_refusals<P: Places, E: Write>(
     program: &str,
     words: &[String],
     places: &P,
+    form: LineForm,
     refusals: &Refusals,
     errors: &mut Output<'_, E>,
 ) {
@@ -64,11 +65,14 @@ pub fn tell_refusals<P: Places, E: Write>(
     for index in 0..kept.len() {
         let text = refusals.excerpt(index);
         tell_refusal(program, words, places, kept[index], &text, errors);
+        tell_masks(form, kept[index], &text, errors);
+        tell("\n", errors);
     }
     tell_more(program, refusals.more(), errors);
 }
 
-// Reports a refused line, which begins with this text, and what would do in its place.
+// Reports a refused line, which begins with this text, and what would do in its place, without a
+// line feed.
 fn tell_refusal<P: Places, E: Write>(
     program: &str,
     words: &[String],
@@ -87,13 +91,21 @@ fn tell_refusal<P: Places, E: Write>(
     if !text.is_cut() {
         tell_meant(meant(refusal.fault, text.bytes()), errors);
     }
-    if would_take_masks(refusal.fault, text) {
+}
+
+// Reports that `--masks` takes a refused line, if it does. Only for plain lists is it an option.
+fn tell_masks<E: Write>(
+    form: LineForm,
+    refusal: Refusal,
+    text: &Excerpt,
+    errors: &mut Output<'_, E>,
+) {
+    if matches!(form, LineForm::Plain) && would_take_masks(refusal.fault, text) {
         tell(
             " (--masks takes a mask or wildcard after an address)",
             errors,
         );
     }
-    tell("\n", errors);
 }
 
 // Reports the beginning of a text, unless the text is empty.

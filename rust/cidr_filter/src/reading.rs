@@ -51,7 +51,7 @@ pub(crate) fn question_of(items: &[Item<'_>]) -> Question {
 /// Returns the rules of the lists: with `--strict`, host bits are refused; with `--whole`, lists
 /// that do not end with a line feed; with `--masks`, a mask or wildcard may be a second word; with
 /// `--read`, lines are in the form that it names.
-fn rules_of(items: &[Item<'_>]) -> Rules {
+pub(crate) fn rules_of(items: &[Item<'_>]) -> Rules {
     Rules {
         refuses_host_bits: is_given(items, STRICT),
         is_whole: is_given(items, WHOLE),

@@ -12,6 +12,7 @@ use crate::reading::{Sets, refuse_lists};
 use crate::reduce::is_any;
 use crate::run::read_sides;
 use crate::set_names::SetNames;
+use crate::shapes::rules_of;
 use crate::split::status;
 use crate::usage::print_usage;
 use cidr_programs::allotting::{FreeBlocks, free_blocks};
@@ -38,7 +39,8 @@ pub(crate) fn free<L: OpenLists, W: Write, E: Write>(
     errors: &mut Output<'_, E>,
 ) -> u8 {
     let (pools, used, refusals, read) = read_sides(request.merge, context);
-    tell_refusals(PROGRAM, context.names, &InLists, &refusals, errors);
+    let form = rules_of(request.merge.shape).form;
+    tell_refusals(PROGRAM, context.names, &InLists, form, &refusals, errors);
     match read {
         Ok(()) => {
             let skips = !refusals.is_empty();

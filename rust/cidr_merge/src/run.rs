@@ -14,6 +14,7 @@ use crate::printing::{Merging, print};
 use crate::reading::{Sets, read_side, refuse_lists};
 use crate::reduce::reduce;
 use crate::rows::table;
+use crate::shapes::rules_of;
 use crate::spelling::{is_short, spelled_out};
 use crate::split::split;
 use cidr_programs::lines::fault::RunFault;
@@ -103,7 +104,8 @@ fn merge<L: OpenLists, W: Write, E: Write>(
     errors: &mut Output<'_, E>,
 ) -> u8 {
     let (first, second, refusals, read) = read_sides(request, context);
-    tell_refusals(PROGRAM, context.names, &InLists, &refusals, errors);
+    let form = rules_of(request.shape).form;
+    tell_refusals(PROGRAM, context.names, &InLists, form, &refusals, errors);
     match read {
         Ok(()) => {
             let merging = Merging {

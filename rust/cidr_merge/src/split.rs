@@ -9,6 +9,7 @@ use crate::held_back::{lacking_of_sets, tell_lacking};
 use crate::help::PROGRAM;
 use crate::reading::{Sets, read_side, refuse_lists};
 use crate::set_names::SetNames;
+use crate::shapes::rules_of;
 use cidr_programs::lines::fault::RunFault;
 use cidr_programs::lines::output::Output;
 use cidr_programs::lists::{OpenLists, Refusals};
@@ -26,7 +27,8 @@ pub(crate) fn split<L: OpenLists, W: Write, E: Write>(
     let names = context.names;
     let none = Refusals::new();
     let (sets, refusals, read) = read_side(context, request.shape, names, 0, none);
-    tell_refusals(PROGRAM, names, &InLists, &refusals, errors);
+    let form = rules_of(request.shape).form;
+    tell_refusals(PROGRAM, names, &InLists, form, &refusals, errors);
     match read {
         Ok(()) => print_split(
             context.sets,
