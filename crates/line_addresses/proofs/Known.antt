@@ -9,7 +9,7 @@ pub use Rattle.line_addresses.proofs.LastBytes.{none_ending}
 pub use Rattle.line_addresses.proofs.LastParts.{first_part, part_counts, part_skipped, parts_before}
 pub use Rattle.line_addresses.proofs.LineParts.{inside}
 pub use Rattle.line_addresses.proofs.NextNetworks.{at_stretch, behind_stretch, ends_stretch, no_network, one_network}
-pub use Rattle.line_addresses.proofs.NextRuns.{at_run, behind_byte, behind_run, no_more}
+pub use Rattle.line_addresses.proofs.NextRuns.{after_run, at_run, behind_byte, no_more}
 pub use Rattle.line_addresses.proofs.NextWords.{behind_blank, first_word, later_word, no_words, word_first}
 pub use Rattle.line_addresses.proofs.Parts.{no_more_parts, one_part_less, part_from, parts_from}
 pub use Rattle.line_addresses.proofs.Picks.{IsLast, Lies, last_picked, next_picked, one_later}
@@ -17,4 +17,5 @@ pub use Rattle.line_addresses.proofs.Ports.{counted_from, no_address, no_dot, no
 pub use Rattle.line_addresses.proofs.Shown.{at_rest, at_start, begins, begins_behind, begun_by_other, left_marked, left_unmarked, none_at_rest, not_begun, nothing_at_rest, nothing_in, shown_by_nothing, some_from}
 pub use Rattle.line_addresses.proofs.SlashRuns.{at_slash_run, slash_passed}
 pub use Rattle.line_addresses.proofs.StretchNetworks.{marked, network_begins, network_begins_behind, no_mark, no_network_begins, no_slash, none_without, slash_at, whole}
+pub use Rattle.line_addresses.proofs.Unmarked.{none_unmarked}
 pub use Rattle.line_addresses.proofs.Values.{all_passed, passed_over, run_first, same_some, stops_here}

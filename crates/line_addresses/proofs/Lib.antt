@@ -23,6 +23,7 @@ pub mod Ports
 pub mod Shown
 pub mod SlashRuns
 pub mod StretchNetworks
+pub mod Unmarked
 pub mod ValueExamples
 pub mod Values
 pub mod Words

@@ -1,5 +1,5 @@
 -- The next address of a line, run by run.
-use Rattle.line_addresses.proofs.Words.{◌≡◌, ℕ, ◌+◌, ◌-◌, ◌<◌, ◌≤◌, Bool, true, not, List, [], ◌∷◌, length, length-take, take, drop, None, ap, subst, ◌∙◌, arith, filter_map, slice_index, cons_option, slice_range, drop-drop, drop-take, take-take, address_in, addresses_of, IsNextOf, IsPicked, IsRunEnd, is_run_byte, Found}
+use Rattle.line_addresses.proofs.Words.{◌≡◌, ℕ, ◌+◌, ◌-◌, ◌<◌, ◌≤◌, Bool, true, not, List, [], ◌∷◌, length, length-take, take, drop, None, ap, sym, subst, ◌∙◌, arith, inl, inr, cases_lt, filter_map, slice_index, cons_option, slice_range, drop-drop, drop-take, take-take, address_in, addresses_of, IsNextOf, IsPicked, IsRunEnd, is_run_byte, Found}
 use Rattle.line_addresses.proofs.LineParts.{Gathers, filters, part_at, cut_at, at_end}
 use Rattle.line_addresses.proofs.Shown.{nothing_shown}
 
@@ -32,10 +32,19 @@ module _ (line : List ℕ) (from at : ℕ) (same : addresses_of (drop from line)
       same ∙ cut_at runs ends_runs line at below stops
 
   -- a run without an address
-  pub behind_run : (end : ℕ) → IsRunEnd line at end → address_in (slice_range line at end) ≡ None
+  behind_run : (end : ℕ) → IsRunEnd line at end → address_in (slice_range line at end) ≡ None
       → addresses_of (drop from line) ≡ addresses_of (drop end line)
   behind_run end is none =
       same ∙ part_at runs ends_runs line at end is ∙ ap (λ o. cons_option o (addresses_of (drop end line))) none
+
+  -- the same, with the byte after it, if there is one
+  pub after_run : (end : ℕ) → IsRunEnd line at end → address_in (slice_range line at end) ≡ None
+      → addresses_of (drop from line) ≡ addresses_of (drop (end + 1) line)
+  after_run end is none = behind_run end is none ∙ elim (cases_lt end (length line)) [
+    | inl below ↦ cut_at runs ends_runs line end below (is.stops below)
+    | inr past ↦ at_end runs ends_runs line end past
+        ∙ sym (at_end runs ends_runs line (end + 1) (omega (arith, past)))
+  ]
 
   -- a run with an address
   pub at_run : (end : ℕ) (found : Found) → from ≤ at → IsRunEnd line at end → ¬ (end ≡ at)

@@ -7,7 +7,7 @@ pub use Rattle.ipnetwork_addr.specs.Computed.Reading.{answer_from}
 pub use Rattle.ipnetwork_addr.specs.Either.{NamesIp, unmapped}
 pub use Rattle.ipnetwork_addr.specs.Ipv4Text.{NamesV4}
 pub use Rattle.ipnetwork_addr.specs.Ipv6Text.{NamesV6}
-pub use Rattle.ipnetwork_addr.specs.Texts.{Colon, Digit, Dot, IsAddressByte, LowerHex, UpperHex}
+pub use Rattle.ipnetwork_addr.specs.Texts.{Colon, Digit, Dot, IsAddressByte, LowerHex, UpperHex, colon_first}
 pub use Rattle.ipnetwork_addr.specs.declared.ip.IpAddr.{IpAddr}
 pub use Rattle.ipnetwork_addr.specs.declared.ip.IpAddr.TheVariants.{V4, V6}
 unfoldable pub use Rattle.line_addresses.specs.Addresses.{address_in, address_of, before_port, begun_by, behind_word}
@@ -45,6 +45,6 @@ pub use Rattle.std.proofs.lemmas.List.Sums.{position_or_len_is}
 pub use Rattle.std.specs.Char.{is_ascii_digit}
 unfoldable pub use Rattle.std.specs.Fmt.{digits}
 pub use Rattle.std.specs.Int.{is_in_range}
-pub use Rattle.std.specs.List.{All, AllByRecursion, after_first, cons_option, list_all, onto_first, position_or_len, range_with_len, slice_range, slice_split}
+pub use Rattle.std.specs.List.{All, AllByRecursion, after_first, cons_option, list_all, list_any, onto_first, position_or_len, range_with_len, slice_range, slice_split}
 pub use Rattle.std.specs.Option.{option_to_list}
 pub use Rattle.std.specs.Prelude.{Err, IfSome, MatchOption, Ok, bytes_eq, codes, is_some, option_and_then, filter, filter_map, flat_map, if◌then◌else◌, map, nat_le, nat_lt, option_map, reverse, slice_get, slice_index, ◌||◌}

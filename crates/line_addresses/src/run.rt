@@ -1,7 +1,8 @@
 //! The address of a run.
 ghost use Rattle.std.specs.Prelude.{◌≡◌, ◌≤◌, None, MatchOption, length, take};
+ghost use Rattle.std.specs.List.{list_any};
 ghost use Rattle.line_addresses.specs.Addresses.{address_of, ends_with_mark, address_in, before_port};
-ghost use Rattle.line_addresses.specs.Addresses.{begun_by};
+ghost use Rattle.line_addresses.specs.Addresses.{begun_by, is_mark};
 ghost use Rattle.line_addresses.specs.Areas.{IsPicked};
 ghost use Rattle.line_addresses.specs.Private.LineRuns.{IsRunEnd, Shows};
 
@@ -11,6 +12,7 @@ use crate::laws;
 use crate::named::behind_word;
 use crate::port::{digits_at_end, has_dot, is_port};
 use ipnetwork_addr::IpAddr;
+use ipnetwork_addr::laws::{v4_text_has_a_dot_first, v6_text_has_a_colon_first};
 
 /// Returns the index after the run bytes that begin at `start`.
 #[inline(always)]
@@ -39,10 +41,27 @@ pub(crate) fn address_in(run: &[u8]) -> Option<Found>
     if !is_address_byte(run[run.len() - 1]) {
         return None;
     }
+    address_if_marked(run)
+}
+
+// Returns the address of a run, and the position of its text in the run, whatever byte ends it. It
+// is not inlined, since it would take registers from the loop over the bytes of a line.
+#[inline(never)]
+fn address_if_marked(run: &[u8]) -> Option<Found>
+    ensures { MatchOption result (address_in run.now ≡ None)
+        (IsPicked (address_in run.now) run.now) }
+{
+    laws::named_address();
+    v4_text_has_a_dot_first();
+    v6_text_has_a_colon_first();
+    if !has_mark(run) {
+        return None;
+    }
     address_within(run)
 }
 
-// Returns the address of a run, and the position of its text in the run, whatever byte ends it.
+// Returns the same as `address_if_marked`, without a look at the marks first.
+#[inline(never)]
 fn address_within(run: &[u8]) -> Option<Found>
     ensures { MatchOption result (address_in run.now ≡ None)
         (IsPicked (address_in run.now) run.now) }
@@ -110,6 +129,13 @@ pub fn address_of(text: &[u8]) -> Option<IpAddr>
         Ok(address) => Some(address),
         Err(_) => None,
     }
+}
+
+// Returns whether a text has a `.` or a `:`, as each address text has.
+fn has_mark(text: &[u8]) -> bool
+    ensures { result ≡ list_any (λ byte. is_mark byte) text.now }
+{
+    text.iter().any(|byte| *byte == b'.' || *byte == b':')
 }
 
 /// Returns whether a text ends with a `.` or a `:`.

@@ -37,7 +37,8 @@ pub fn next_address(line: &[u8], from: usize) -> Option<Found> {
                 next: end,
             });
         }
-        at = end;
+        // The run ends at the line's end or at a byte that is not a run byte.
+        at = end + 1;
     }
     None
 }

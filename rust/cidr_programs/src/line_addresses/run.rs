@@ -28,10 +28,21 @@ pub(crate) fn address_in(run: &[u8]) -> Option<Found> {
     if !is_address_byte(run[run.len() - 1]) {
         return None;
     }
+    address_if_marked(run)
+}
+
+// Returns the address of a run, and the position of its text in the run, whatever byte ends it. It
+// is not inlined, since it would take registers from the loop over the bytes of a line.
+#[inline(never)]
+fn address_if_marked(run: &[u8]) -> Option<Found> {
+    if !has_mark(run) {
+        return None;
+    }
     address_within(run)
 }
 
-// Returns the address of a run, and the position of its text in the run, whatever byte ends it.
+// Returns the same as `address_if_marked`, without a look at the marks first.
+#[inline(never)]
 fn address_within(run: &[u8]) -> Option<Found> {
     if let Some((address, size)) = begun_by(run) {
         return Some(Found {
@@ -93,6 +104,11 @@ pub fn address_of(text: &[u8]) -> Option<IpAddr> {
         Ok(address) => Some(address),
         Err(_) => None,
     }
+}
+
+// Returns whether a text has a `.` or a `:`, as each address text has.
+fn has_mark(text: &[u8]) -> bool {
+    text.iter().any(|byte| *byte == b'.' || *byte == b':')
 }
 
 /// Returns whether a text ends with a `.` or a `:`.

@@ -1,10 +1,9 @@
-use Rattle.line_addresses.proofs.Known.{arith, behind_byte, behind_run, at_run, no_more}
+use Rattle.line_addresses.proofs.Known.{arith, after_run, at_run, behind_byte, no_more}
 use Rattle.line_addresses.proofs.found.next_address.Goals as goal
 
 pub runs-preserved-then-end-at : goal.runs-preserved-then-end-at
 runs-preserved-then-end-at c = record {
   behind = omega (arith, c.runs.invariant.behind);
-  within = omega (arith, c.runs-test.true);
   same = behind_byte c.args.line.now c.args.from c.runs.at c.runs.invariant.same c.run_end-end.result c.runs-test.true
       c.run_end-end.ensures c.if-end-at.true;
 }
@@ -12,8 +11,7 @@ runs-preserved-then-end-at c = record {
 pub runs-preserved : goal.runs-preserved
 runs-preserved c = record {
   behind = omega (arith, c.runs.invariant.behind, c.run_end-end.ensures.behind);
-  within = c.run_end-end.ensures.within;
-  same = behind_run c.args.line.now c.args.from c.runs.at c.runs.invariant.same c.run_end-end.result
+  same = after_run c.args.line.now c.args.from c.runs.at c.runs.invariant.same c.run_end-end.result
       c.run_end-end.ensures c.in_default.ensures;
 }
 

@@ -4,7 +4,6 @@ use Rattle.line_addresses.proofs.found.next_address.Given as goal
 abbrev pub invariant-runs : goal.invariant-runs
 invariant-runs l = record {
   behind : l.from ≤ l.at;
-  within : l.at ≤ length l.line;
   same : addresses_of (drop l.from l.line) ≡ addresses_of (drop l.at l.line);
 }
 
