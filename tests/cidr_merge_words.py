@@ -25,8 +25,8 @@ TASKS = {
     "split f": [*READ, *LINES, "--at-least 9", "--prefix 24"],
     "reduce f": [*PRINTED, *COUNTED],
     "check f": ["-e 10.0.0.1", "--strict"],
-    "overlaps f": ["-e 10.0.0.1"],
-    "find ::1 -- f": ["-e 10.0.0.1", "--from halves"],
+    "overlaps f": ["-e 10.0.0.1", "--strict"],
+    "find ::1 -- f": ["-e 10.0.0.1", "--strict", "--from halves"],
     "free f -- f": [*READ, *LINES, "--allow-empty", "--prefix 24", "--all", "--hosts 9", "--usage"],
 }
 
