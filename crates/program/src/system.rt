@@ -84,7 +84,7 @@ impl<'a> System<'a> {
             return Err(io::Error::from(ErrorKind::NotSeekable));
         }
         if pipes.is_full() {
-            return Err(io::Error::from(ErrorKind::QuotaExceeded));
+            return Err(io::Error::from(ErrorKind::Other));
         }
         pipes.push(pipe);
         Ok(device)
